@@ -1,0 +1,99 @@
+-- The starred examples of document 01, as a list, and the test that one holds.
+-- Assumes nothing.
+use mathlib.Core.Bool.{Bool, true, false, _&&_}
+use mathlib.Core.List.{List, [], _∷_}
+use Prim.Native.Nat.{ℕ, zero, suc, _-_, _*_, _/_, _^_}
+use lib.Dec.{eqb}
+use Rattle.definitions.specs.Words.{Mem, blank, put, slot}
+use Rattle.definitions.specs.Geometry.{four, indices}
+use Rattle.definitions.specs.Inputs.{Job, Place, nowhere, Report, Built}
+use Rattle.definitions.specs.Build.{refused, build}
+
+-- ---- equality tests
+
+unfoldable pub samePlace : Place → Place → Bool
+samePlace p q = eqb (p .address) (q .address) && eqb (p .level) (q .level) && eqb (p .offset) (q .offset)
+
+unfoldable pub sameReport : Report → Report → Bool
+unfolding samePlace
+sameReport r s =
+    eqb (r .number) (s .number) && eqb (r .used) (s .used) && eqb (r .moved) (s .moved)
+    && eqb (r .merged) (s .merged) && eqb (r .reached) (s .reached) && samePlace (r .place) (s .place)
+
+-- n words from word k on
+unfoldable pub sameWords : ℕ → ℕ → Mem → Mem → Bool
+sameWords zero k m n = true
+sameWords (suc c) k m n = eqb (m k) (n k) && sameWords c (suc k) m n
+
+unfoldable pub sameList : List ℕ → List ℕ → Bool
+sameList [] [] = true
+sameList [] (y ∷ ys) = false
+sameList (x ∷ xs) [] = false
+sameList (x ∷ xs) (y ∷ ys) = eqb x y && sameList xs ys
+
+unfoldable pub sameBuilt : ℕ → Built → Built → Bool
+unfolding sameReport sameWords
+sameBuilt n b c = sameReport (b .report) (c .report) && sameWords n 0 (b .output) (c .output)
+
+-- ---- the examples
+
+-- a job that is to give a report and an output, compared in every word of the region; an address that is to have
+-- these indices, level 0 first
+pub data Example : Type 0 where
+  builds : Job → Built → Example
+  hasIndices : ℕ → List ℕ → Example
+
+unfoldable pub holds : Example → Bool
+unfolding sameBuilt sameList
+holds (builds j c) = sameBuilt (j .region .size / 8) (build j) c
+holds (hasIndices a xs) = sameList (indices four a) xs
+
+unfoldable pub allHold : List Example → Bool
+allHold [] = true
+allHold (x ∷ xs) = holds x && allHold xs
+
+unfoldable pub base : Mem
+base = put (put (put blank (slot 0 0) 0x101023) (slot 1 0) 0x102023) (slot 2 1) 0x2000E3
+
+-- the base, with a size, an offset of the one range, and an image
+unfoldable pub job : ℕ → ℕ → Mem → Job
+job size o m = record {
+  region = record { gpa = 0x100000; size = size; used = 0x3000 };
+  cr3 = 0x100000;
+  cr4 = 0;
+  tableOffset = 0;
+  words = 0x200000 ∷ 0x3FFFFF ∷ o ∷ [];
+  imageLength = 0x3000;
+  image = m;
+  outputLength = size;
+  scratchLength = 3;
+}
+
+-- accepted: used, moved, merged, and the output
+unfoldable pub yields : ℕ → ℕ → ℕ → Mem → Built
+yields used moved merged m = record {
+  report = record { number = 0; used = used; moved = moved; merged = merged; reached = 3; place = nowhere };
+  output = m;
+}
+
+-- refused: number, address, level, offset
+unfoldable pub refuses : ℕ → ℕ → ℕ → ℕ → Built
+refuses n a l o = refused n (record { address = a; level = l; offset = o })
+
+unfoldable pub examples : List Example
+examples =
+    builds (job 0x8000 0x1FF000 base) (yields 0x3000 0 0 base)
+    ∷ builds (job 0x8000 0x200000 base) (yields 0x3000 1 0 (put (put base (slot 2 1) 0) (slot 2 2) 0x4000E3))
+    ∷ builds (job 0x8000 0x201000 base) (refuses 12 0x200000 1 0x201000)
+    ∷ builds (job 0x8000 0x40000000 base)
+    (yields 0x4000 1 0 (put (put (put base (slot 2 1) 0) (slot 1 1) 0x103023) (slot 3 1) 0x402000E3))
+    ∷ builds (job 0x3000 0x40000000 base) (refuses 19 0x40200000 2 0)
+    ∷ builds (job 0x8000 (2 ^ 64 - 0x200000) base) (yields 0x3000 1 0 (put (put base (slot 2 1) 0) (slot 2 0) 0xE3))
+    ∷ builds (job 0x8000 (2 ^ 64 - 0x400000) base) (refuses 13 0x200000 1 (2 ^ 64 - 0x400000))
+    ∷ builds (job 0x8000 0x200000 (put base (slot 2 2) 0x4000E3))
+    (yields 0x3000 1 1 (put (put base (slot 2 1) 0) (slot 2 2) 0x4000E3))
+    ∷ builds (job 0x8000 0x200000 (put base (slot 2 2) 0x4000E1)) (refuses 18 0x400000 1 0)
+    ∷ builds (job 0x8000 0x200000 (put base (slot 0 511) 0x100023)) (refuses 10 (511 * 2 ^ 39) 3 0)
+    ∷ builds (job 0x8000 0x200000 (put base (slot 2 0) 0x103023)) (refuses 9 0 1 0)
+    ∷ hasIndices 0x603000 (3 ∷ 3 ∷ 0 ∷ 0 ∷ [])
+    ∷ []
