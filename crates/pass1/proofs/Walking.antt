@@ -1,0 +1,191 @@
+-- An entry with what is below it, the entries of a table, and the beginning.
+-- Assumes nothing.
+use mathlib.Core.Path.{_≡_, refl, sym, ap, ap₂, subst, _∙_}
+use mathlib.Core.Option.{none}
+use mathlib.Core.List.{List, []}
+use Prim.Native.Nat.{ℕ, zero, suc, _+_, _-_, _*_, _/_, _%_, _^_, _≤_, _<_}
+use native.Mathlib.Omega.{arith}
+use native.Mathlib.Nat.{suc-mul, mul-le-mul-right, div-add-mod'}
+use lib.Arith.{digits-mod}
+use Rattle.definitions.proofs.Levels.{span-pos}
+use lib.ListN.{length}
+use Rattle.definitions.specs.Words.{Mem, Tables, slot, mark, noTables}
+use Rattle.definitions.specs.Geometry.{span}
+use Rattle.definitions.specs.Step.{Step, andThen, times}
+use Rattle.definitions.specs.Pass1.{Plan, Moved, State, Act, keep, moveAct, act, perform, visit, walkTable}
+use Rattle.moved.specs.View.{gather, Held, Empty}
+use Rattle.reached.specs.Held.{setOf}
+use Rattle.moved.specs.declared.Store.{Store}
+use Rattle.pass1.specs.declared.Job.{Job}
+use Rattle.pass1.specs.declared.Walk.{Walk}
+use Rattle.pass1.specs.declared.Spot.{Spot}
+use Rattle.pass1.specs.declared.Turn.{Turn}
+use Rattle.pass1.specs.declared.Turn.the-variants.{Down, Done}
+use Rattle.pass1.specs.declared.Opened.{Opened}
+use Rattle.pass1.specs.Walks.{view, outcome, planOf, Told, Moves, Opens, opensTo, Lies, Visits, Walked, First}
+use Rattle.pass1.specs.declared.Task.{Task}
+use Rattle.pass1.specs.declared.Task.the-variants.{Skip, Leaf}
+use Rattle.pass1.proofs.Moving.{outcome-go, outcome-stop}
+
+-- ---- an entry and what is below
+module _ (j : Job) (ws : List ℕ) (x : Spot) (m : Mem) (xs : List ℕ) (w : Walk) (held : Held xs (w .store)) where
+  abbrev downOf : ℕ → State → Step State
+  downOf = walkTable (planOf j ws (length xs)) (x .level) (x .va)
+
+  module _ (task : Task) (told : Told j ws (x .entry) (x .level) (x .va) task) where
+    pub visits-skip : task ≡ Skip → w .number ≡ 0 → Visits j ws x m xs w m xs w
+    unfolding perform
+    visits-skip q runs =
+        let kept : act (planOf j ws (length xs)) (x .level) (x .va) (x .entry) ≡ keep = subst (Told j ws (x .entry) (x .level) (x .va)) q told (length xs) in
+        record {
+          step = outcome-go m xs w runs ∙ sym (ap (perform (length xs / 3) downOf (x .level) (x .va) (x .at) (view m xs w)) kept);
+          held = held;
+          long = refl;
+        }
+
+    pub visits-leaf : (o : ℕ) → task ≡ Leaf o → (m′ : Mem) (ys : List ℕ) (r : Walk) → Moves x o m xs w m′ ys r → Visits j ws x m xs w m′ ys r
+    visits-leaf o q m′ ys r d =
+        let p : Plan = planOf j ws (length xs) in
+        let moves : act p (x .level) (x .va) (x .entry) ≡ moveAct p (x .level) (x .va) (x .entry) o = subst (Told j ws (x .entry) (x .level) (x .va)) q told (length xs) in
+        record {
+          step = d .step p refl downOf ∙ sym (ap (perform (length xs / 3) downOf (x .level) (x .va) (x .at) (view m xs w)) moves);
+          held = d .held;
+          long = d .long;
+        }
+
+  module _ (m′ : Mem) (o : Opened) (opens : Opens j x m w m′ o) where
+    pub opened-held : Held xs (o .state .store)
+    opened-held = subst (Held xs) (sym (opens .store)) held
+
+    pub visits-done : o .turn ≡ Done → Visits j ws x m xs w m′ xs (o .state)
+    visits-done q =
+        record {
+          step = ap (λ (u : Turn). opensTo downOf u m′ xs (o .state)) (sym q) ∙ opens .step ws xs downOf;
+          held = opened-held;
+          long = refl;
+        }
+
+    pub visits-down : (t : ℕ) → o .turn ≡ Down t → 1 ≤ x .level → (m″ : Mem) (zs : List ℕ) (r : Walk) → Walked j ws t (x .level - 1) (x .va) m′ xs (o .state) m″ zs r
+        → Visits j ws x m xs w m″ zs r
+    visits-down t q h m″ zs r d =
+        record {
+          step = d .step
+              ∙ ap (λ (l : ℕ). walkTable (planOf j ws (length xs)) l (x .va) t (view m′ xs (o .state))) (up (x .level) h)
+              ∙ ap (λ (u : Turn). opensTo downOf u m′ xs (o .state)) (sym q) ∙ opens .step ws xs downOf;
+          held = d .held;
+          long = d .long;
+        }
+      where
+        up : (l : ℕ) → 1 ≤ l → suc (l - 1) ≡ l
+        up l h = omega arith
+
+pub lies-down : (l a : ℕ) → 1 ≤ l → Lies l a → Lies (suc (l - 1)) a
+lies-down l a h d = subst (λ (k : ℕ). Lies k a) (up l h) d
+  where
+    up : (l : ℕ) → 1 ≤ l → l ≡ suc (l - 1)
+    up l h = omega arith
+
+-- an entry's span lies within its table's
+pub inner : (i n : ℕ) → i < 512 → i * n + n ≤ 512 * n
+inner i n h = subst (λ (k : ℕ). k ≤ 512 * n) (suc-mul i n) (mul-le-mul-right n h)
+
+pub lies-at : (l a i : ℕ) → Lies (suc l) a → i < 512 → Lies l (a + i * span l)
+unfolding span
+lies-at l a i d h =
+    let q : ℕ = a / (512 * span l) in
+    let z : q * (512 * span l) + a % (512 * span l) ≡ a = div-add-mod' a (512 * span l) in
+    let w : a % (512 * span l) ≡ 0 = d .whole in
+    let low : a + 512 * span l ≤ 2 ^ 48 = d .low in
+    let e : a + i * span l ≡ (q * 512 + i) * span l + 0 = omega arith in
+    record {
+      whole = ap (λ (n : ℕ). n % span l) e ∙ digits-mod (q * 512 + i) (span-pos l);
+      low = omega (arith, inner i (span l) h);
+    }
+
+-- ---- the entries of a table
+module _ (j : Job) (ws : List ℕ) (n l a t : ℕ) where
+  abbrev pub turnOf : ℕ → State → Step State
+  turnOf = λ i s. visit (planOf j ws n) (λ b t′ s″. walkTable (planOf j ws n) l b t′ s″) l a t i s
+
+  pub walk-begins : (s : State) → times 512 turnOf 0 s ≡ walkTable (planOf j ws n) (suc l) a t s
+  unfolding walkTable
+  walk-begins s = refl
+
+  -- an entry that stays
+  pub walk-skips : (m : Mem) (s : State) → s .mem ≡ m → (i k e b : ℕ) → k ≡ 512 * t + i → b ≡ a + i * span l → e ≡ m k → act (planOf j ws n) l b e ≡ keep
+      → (c d i′ : ℕ) → d ≡ suc c → i′ ≡ suc i → (z : Step State) → times d turnOf i s ≡ z → times c turnOf i′ s ≡ z
+  unfolding times andThen visit perform
+  walk-skips m s em i k e b at first reads h c d i′ ed ei z q =
+      let p : Plan = planOf j ws n in
+      let v : s .mem (slot t i) ≡ e = ap (λ (g : Mem). g (slot t i)) em ∙ ap m (sym at) ∙ sym reads in
+      let kept : act p l (a + i * span l) (s .mem (slot t i)) ≡ keep = ap₂ (λ (x y : ℕ). act p l x y) (sym first) v ∙ h in
+      ap (λ (y : ℕ). times c turnOf y s) ei
+      ∙ ap (λ (y : Act). andThen (perform (n / 3) (walkTable p l (a + i * span l)) l (a + i * span l) (slot t i) s y) (λ s′. times c turnOf (suc i) s′)) (sym kept)
+      ∙ ap (λ (y : ℕ). times y turnOf i s) (sym ed) ∙ q
+
+  module _ (m : Mem) (xs : List ℕ) (w : Walk) (long : length xs ≡ n) (i k e b : ℕ) (at : k ≡ 512 * t + i) (first : b ≡ a + i * span l) (reads : e ≡ m k)
+      (m′ : Mem) (ys : List ℕ) (r : Walk) (visits : Visits j ws (record { at = k; entry = e; level = l; va = b }) m xs w m′ ys r) where
+    turn-is : outcome m′ ys r ≡ turnOf i (view m xs w)
+    unfolding visit
+    turn-is =
+        visits .step
+        ∙ ap (λ (c : ℕ). perform (c / 3) (walkTable (planOf j ws c) l b) l b k (view m xs w) (act (planOf j ws c) l b e)) long
+        ∙ ap (λ (c : ℕ). perform (n / 3) (walkTable (planOf j ws n) l b) l b k (view m xs w) (act (planOf j ws n) l b c)) reads
+        ∙ ap₂ (λ (k b : ℕ). perform (n / 3) (walkTable (planOf j ws n) l b) l b k (view m xs w) (act (planOf j ws n) l b (m k))) at first
+
+    pub walk-on : (c d i′ : ℕ) → d ≡ suc c → i′ ≡ suc i → r .number ≡ 0 → (z : Step State) → times d turnOf i (view m xs w) ≡ z → times c turnOf i′ (view m′ ys r) ≡ z
+    unfolding times andThen
+    walk-on c d i′ ed ei runs z h =
+        ap (λ (v : ℕ). times c turnOf v (view m′ ys r)) ei
+        ∙ ap (λ (v : Step State). andThen v (λ s′. times c turnOf (suc i) s′)) (sym (outcome-go m′ ys r runs) ∙ turn-is)
+        ∙ ap (λ (v : ℕ). times v turnOf i (view m xs w)) (sym ed) ∙ h
+
+    pub walk-stops : (c d : ℕ) → d ≡ suc c → (r .number ≡ 0 → ⊥) → (z : Step State) → times d turnOf i (view m xs w) ≡ z → outcome m′ ys r ≡ z
+    unfolding times andThen
+    walk-stops c d ed f z h =
+        outcome-stop m′ ys r f
+        ∙ ap (λ (v : Step State). andThen v (λ s′. times c turnOf (suc i) s′)) (sym (outcome-stop m′ ys r f) ∙ turn-is)
+        ∙ ap (λ (v : ℕ). times v turnOf i (view m xs w)) (sym ed) ∙ h
+
+  pub walk-over : (m : Mem) (xs : List ℕ) (w : Walk) (d i : ℕ) → d ≡ 0 → w .number ≡ 0 → (z : Step State) → times d turnOf i (view m xs w) ≡ z → outcome m xs w ≡ z
+  unfolding times
+  walk-over m xs w d i e runs z h = outcome-go m xs w runs ∙ ap (λ (v : ℕ). times v turnOf i (view m xs w)) (sym e) ∙ h
+
+pub lies-with : (l a i s : ℕ) → s ≡ span l → Lies (suc l) a → i < 512 → Lies l (a + i * s)
+lies-with l a i s e d h = subst (λ (n : ℕ). Lies l (a + i * n)) (sym e) (lies-at l a i d h)
+
+pub low-table : (l a : ℕ) → Lies (suc l) a → a + 512 * span l ≤ 2 ^ 48
+unfolding span
+low-table l a d = d .low
+
+pub left : (i : ℕ) → i < 512 → 512 - i ≡ suc (512 - (i + 1))
+left i h = omega arith
+
+-- ---- the beginning
+
+gather-none : (n : ℕ) (g : ℕ → Moved) → n ≡ 0 → gather n g 0 ≡ []
+unfolding gather
+gather-none zero g e = refl
+gather-none (suc n) g e = absurd (omega arith)
+
+pub held-empty : (xs : List ℕ) (s : Store) → Empty s → Held xs s
+held-empty xs s e =
+    let f = e .front in
+    let b = e .back in
+    record { fits = omega arith; ascending = λ i j h k. absurd (omega arith) }
+
+pub lies-root : Lies 4 0
+unfolding span
+lies-root = record { whole = refl; low = omega arith }
+
+pub first-is : (j : Job) (ws : List ℕ) (t : ℕ) (m : Mem) (xs : List ℕ) (w : Walk) (m′ : Mem) (ys : List ℕ) (r : Walk)
+    → setOf (w .reached) ≡ mark noTables t → Empty (w .store) → Walked j ws t 3 0 m xs w m′ ys r → First j ws t m (length xs) m′ ys r
+first-is j ws t m xs w m′ ys r es e d =
+    let f = e .front in
+    let b = e .back in
+    let none : w .store .front + w .store .back ≡ 0 = omega arith in
+    record {
+      step = d .step ∙ ap₂ (λ (y : Tables) (z : List Moved). walkTable (planOf j ws (length xs)) 4 0 t (record { mem = m; reached = y; moved = z })) es (gather-none (w .store .front + w .store .back) _ none);
+      held = d .held;
+      long = d .long;
+    }
