@@ -13,7 +13,7 @@ use borrow.Author.Tests.{ltb-true, ltb-false}
 use Rattle.definitions.specs.Geometry.{span}
 use Rattle.definitions.specs.Inputs.{Region, Range}
 use Rattle.definitions.specs.Ranges.{shifted, magnitude, rangesOf, joined, deciding, touches, touching, stay, shift, verdict, decide}
-use Rattle.definitions.specs.Offset.{Signed, upBy, downBy, signed, absolute, Target, Fits}
+use Rattle.definitions.specs.Offset.{upBy, downBy, signed, absolute, Target, Fits}
 use Rattle.definitions.proofs.Splits.{onBool}
 
 -- how far an offset moves is its absolute value

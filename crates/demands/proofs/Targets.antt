@@ -1,23 +1,23 @@
 -- Offsets in true numbers: where a moved leaf goes, and when number 13 is given.
 -- Assumes nothing.
-use Prim.Native.Nat.{ℕ, suc, _+_, _*_, _/_, _^_, _<_, _≤_}
-use mathlib.Core.Path.{_≡_, refl, sym, _∙_, ap}
-use mathlib.Core.Logic.{_⊎_, inl, inr, ⊎-elim, _↔_}
+use Prim.Native.Nat.{ℕ, suc, _+_, _*_, _^_, _<_, _≤_}
+use mathlib.Core.Path.{_≡_, refl}
+use mathlib.Core.Logic.{inl, inr, ⊎-elim, _↔_}
 use native.Mathlib.Nat.{div-add-mod'}
 use native.Mathlib.Omega.{arith}
 use Rattle.definitions.specs.Words.{Mem}
 use Rattle.definitions.specs.Geometry.{span, part}
 use Rattle.definitions.specs.Inputs.{Job, Place, placeWith}
-use Rattle.definitions.specs.Ranges.{Kind, leaf, kind, shift, decide, shifted}
+use Rattle.definitions.specs.Ranges.{Kind, shift, decide, shifted}
 use Rattle.definitions.specs.Offset.{signed, Fits}
 use Rattle.definitions.specs.Pass1.{Moved, refuse, act}
 use Rattle.definitions.specs.Build.{geometryOf, geometry, height, planOf}
 use Rattle.definitions.specs.Demand.{Proper, Way, first, later, Reached, stopBefore, entryBefore, fate, Moves, MovedBy}
-use Rattle.definitions.specs.Conditions.{BadEntry, inTail, intoMoved, notWhole, tooFar, BadInput, badRegion, badImage, badOutput, badLevels, badRoot, badOffset, badList, badRanges, freeRoot, BadTables, bad, again, twice, taken, crowded, BadPlaces, onLeaf, inSpan, onPast, onTable, onOther, noRoom, Refusal, TooFar}
+use Rattle.definitions.specs.Conditions.{BadEntry, inTail, intoMoved, notWhole, tooFar, BadTables, bad, again, twice, taken, crowded, BadPlaces, onLeaf, inSpan, onPast, onTable, onOther, noRoom, Refusal, TooFar}
 use Rattle.definitions.proofs.Levels.{span-pos, part-step, part-first, part-below}
 use Rattle.definitions.proofs.Acts.{MovesAs, act-means}
 use Rattle.definitions.proofs.Refusals.{refuse-iff}
-use Rattle.definitions.proofs.Offsets.{Offsets, deciding-offsets, decide-offset, target-shifted, past-iff}
+use Rattle.definitions.proofs.Offsets.{deciding-offsets, decide-offset, target-shifted, past-iff}
 use Rattle.definitions.proofs.Checks.{bad-input-number, limit-field}
 use Rattle.demands.proofs.Sound.{plan-is}
 

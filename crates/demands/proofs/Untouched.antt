@@ -10,15 +10,15 @@ use Rattle.definitions.specs.Words.{Mem}
 use Rattle.definitions.specs.Geometry.{part}
 use Rattle.definitions.specs.Entry.{present}
 use Rattle.definitions.specs.Inputs.{Job}
-use Rattle.definitions.specs.Ranges.{Kind, absent, leaf, outside, table, kind, usedTables}
+use Rattle.definitions.specs.Ranges.{Kind, absent, leaf, outside, table, usedTables}
 use Rattle.definitions.specs.Pass1.{Moved}
 use Rattle.definitions.specs.Build.{height, planOf, build}
 use Rattle.definitions.specs.Walk.{nothing, endOf, endAt}
-use Rattle.definitions.specs.Demand.{Proper, IsRead, readsBefore, Reached, actAt, remains, Written, leafIn, tableIn, Became, Untouched}
+use Rattle.definitions.specs.Demand.{Proper, IsRead, readsBefore, Reached, Written, leafIn, tableIn, Became, Untouched}
 use Rattle.definitions.proofs.Splits.{onBool}
 use Rattle.definitions.proofs.Levels.{part-below}
 use Rattle.definitions.proofs.Reading.{kind-tells}
-use Rattle.demands.proofs.Insert.{at, walk, Wrote, ended}
+use Rattle.demands.proofs.Insert.{at, Wrote, ended}
 use Rattle.demands.proofs.Visit.{Sound}
 use Rattle.demands.proofs.Sound.{paging, passing, sound}
 use Rattle.demands.proofs.Final.{fits, tables-before}
