@@ -1,5 +1,5 @@
--- Offsets in true numbers: where a moved leaf goes, and when number 13 is given.
--- Assumes nothing.
+-- Offsets in true numbers: a moved leaf goes up or down by its offset (moved-by), and 13 is given exactly where
+-- the true new span leaves 0 to the bound (too-far-iff). Assumes nothing.
 use Prim.Native.Nat.{ℕ, suc, _+_, _*_, _^_, _<_, _≤_}
 use mathlib.Core.Path.{_≡_, refl}
 use mathlib.Core.Logic.{inl, inr, ⊎-elim, _↔_}

@@ -1,5 +1,5 @@
--- What an accepted build leaves alone: tables that no walk reads, entries that no move touches, the free tail.
--- Assumes nothing.
+-- What an accepted build leaves alone: tables that no walk reads, entries that no move touches, the free tail
+-- (untouched). Assumes nothing.
 use Prim.Native.Nat.{ℕ, suc, _+_, _*_, _/_, _%_, _<_}
 use mathlib.Core.Path.{_≡_, refl, sym, _∙_, ap}
 use mathlib.Core.Bool.{true, false}
