@@ -1,0 +1,104 @@
+-- Adding an offset word modulo 2^64 moves by the signed number that it means, up and down, below any bound up to 2^63.
+-- Assumes nothing.
+use mathlib.Core.Path.{_≡_, refl}
+use mathlib.Core.Bool.{Bool, true, false, cond}
+use mathlib.Core.Logic.{_↔_}
+use mathlib.Core.List.{List, [], _∷_}
+use Prim.Native.Nat.{ℕ, suc, _+_, _-_, _%_, _^_, _≤_, _<_}
+use native.Mathlib.Decide.{decLe}
+use native.Mathlib.Omega.{arith}
+use lib.Dec.{ltb, eqb}
+use lib.ListN.{getD}
+use borrow.Author.Tests.{ltb-true, ltb-false}
+use Rattle.definitions.specs.Geometry.{span}
+use Rattle.definitions.specs.Inputs.{Region, Range}
+use Rattle.definitions.specs.Ranges.{shifted, magnitude, rangesOf, joined, deciding, touches, touching, stay, shift, verdict, decide}
+use Rattle.definitions.specs.Offset.{upBy, downBy, signed, absolute, Target, Fits}
+use Rattle.definitions.proofs.Splits.{onBool}
+
+-- how far an offset moves is its absolute value
+pub magnitude-absolute : (o : ℕ) → magnitude o ≡ absolute (signed o)
+unfolding magnitude signed absolute
+magnitude-absolute o = turn (ltb o (2 ^ 63))
+  where
+    turn : (b : Bool) → cond b o (2 ^ 64 - o) ≡ absolute (cond b (upBy o) (downBy (2 ^ 64 - o)))
+    turn true = refl
+    turn false = refl
+
+-- an address a and an offset word o
+module _ (a o : ℕ) (low : a < 2 ^ 63) (word : o < 2 ^ 64) where
+  -- by the direction of the offset
+  onSign : {B : Type 0} → (o < 2 ^ 63 → signed o ≡ upBy o → B) → (2 ^ 63 ≤ o → signed o ≡ downBy (2 ^ 64 - o) → B) → B
+  unfolding signed
+  onSign {B} f g = turn (ltb o (2 ^ 63)) refl
+    where
+      turn : (b : Bool) → ltb o (2 ^ 63) ≡ b → B
+      turn true e = f (ltb-true _ _ e) (rw e refl)
+      turn false e = g (ltb-false _ _ e) (rw e refl)
+
+  pub shifted-target : (b : ℕ) → Target a (signed o) b → shifted a o ≡ b
+  unfolding shifted
+  shifted-target b = onSign (λ h e. rw e (λ t. omega arith)) (λ h e. rw e (λ t. omega arith))
+
+  -- there is a true target, or the sum shows as 2^63 or more
+  pub target-shifted : shifted a o < 2 ^ 63 → Target a (signed o) (shifted a o)
+  unfolding shifted
+  target-shifted = onSign (λ h e. rw e (λ s. omega arith)) (λ h e. rw e (λ s. omega arith))
+
+  module _ (limit : ℕ) (most : limit ≤ 2 ^ 63) where
+    -- what the sum shows of the n addresses from a is what is true of them
+    pub fits-iff : (n : ℕ) → 0 < n → (shifted a o + n ≤ limit) ↔ Fits limit a n (signed o)
+    fits-iff n pos = (
+      (λ h. record { to = shifted a o; target = target-shifted (omega arith); end = h }),
+      λ f. rw (shifted-target (f .to) (f .target)) (f .end),
+    )
+
+    -- the rule of number 13
+    pub past-iff : (n : ℕ) → 0 < n → (limit < shifted a o + n) ↔ (¬ Fits limit a n (signed o))
+    past-iff n pos = (
+      (λ h f. omega (arith, fits-iff n pos .1 f)),
+      λ out. elim (decLe (shifted a o + n) limit) [ yes d ↦ absurd (out (fits-iff n pos .0 d)) | no d ↦ omega arith ],
+    )
+
+    -- of one address: a true target outside 0 to the bound shows as the bound or more, and no other does
+    pub outside-iff : (limit ≤ shifted a o) ↔ (¬ Fits limit a 1 (signed o))
+    outside-iff = ((λ h. past-iff 1 (omega arith) .0 (omega arith)), λ out. omega (arith, past-iff 1 (omega arith) .1 out))
+
+-- ---- the offsets of the ranges are words
+
+abbrev pub Offsets : List Range → Type 0
+Offsets [] = Unit {0}
+Offsets (r ∷ rs) = (r .offset < 2 ^ 64) × Offsets rs
+
+ranges-offsets : (ws : List ℕ) → ((i : ℕ) → getD ws i 0 < 2 ^ 64) → Offsets (rangesOf ws)
+unfolding rangesOf
+ranges-offsets [] h = tt
+ranges-offsets (a ∷ []) h = tt
+ranges-offsets (a ∷ b ∷ []) h = tt
+ranges-offsets (a ∷ b ∷ c ∷ ws) h = (h 2, ranges-offsets ws (λ i. h (suc (suc (suc i)))))
+
+joined-offsets : (x : Range) (rs : List Range) → x .offset < 2 ^ 64 → Offsets rs → Offsets (joined x rs)
+unfolding joined
+joined-offsets x [] h hs = (h, tt)
+joined-offsets x (r ∷ rs) h hs = onBool (ltb (x .first) (r .first)) (λ e. rw e (hs .0, joined-offsets x rs h (hs .1))) (λ e. rw e (h, hs))
+
+pub deciding-offsets : (g : Region) (o : ℕ) (ws : List ℕ) → o < 2 ^ 64 → ((i : ℕ) → getD ws i 0 < 2 ^ 64) → Offsets (deciding g o (rangesOf ws))
+unfolding deciding
+deciding-offsets g o ws ho h = onBool (eqb o 0) (λ e. rw e (joined-offsets _ (rangesOf ws) ho (ranges-offsets ws h))) (λ e. rw e (ranges-offsets ws h))
+
+touching-offsets : (a n : ℕ) (rs : List Range) → Offsets rs → Offsets (touching a n rs)
+unfolding touching
+touching-offsets a n [] hs = tt
+touching-offsets a n (r ∷ rs) hs = let ih = touching-offsets a n rs (hs .1) in onBool (touches a n r) (λ e. rw e ih) (λ e. rw e (hs .0, ih))
+
+verdict-offset : (n : ℕ) (rs : List Range) → Offsets rs → (o : ℕ) → verdict n rs ≡ shift o → o < 2 ^ 64
+unfolding verdict
+verdict-offset n [] hs o w = let z : _≡_ {A = ℕ} 0 1 = cc in absurd (omega arith)
+verdict-offset n (r ∷ rs) hs o w =
+    onBool (ltb (magnitude (r .offset)) n)
+    (λ e. let d : shift (r .offset) ≡ shift o = rw e at w in let z : r .offset ≡ o = cc in omega (arith, hs .0))
+    (λ e. let d : stay ≡ shift o = rw e at w in let z : _≡_ {A = ℕ} 0 1 = cc in absurd (omega arith))
+
+pub decide-offset : (rs : List Range) → Offsets rs → (l a o : ℕ) → decide rs l a ≡ shift o → o < 2 ^ 64
+unfolding decide
+decide-offset rs hs l a o w = verdict-offset (span l) (touching a (span l) rs) (touching-offsets a (span l) rs hs) o w

@@ -1,0 +1,103 @@
+-- Offsets in true numbers: a moved leaf goes up or down by its offset (moved-by), and 13 is given exactly where
+-- the true new span leaves 0 to the bound (too-far-iff). Assumes nothing.
+use Prim.Native.Nat.{ℕ, suc, _+_, _*_, _^_, _<_, _≤_}
+use mathlib.Core.Path.{_≡_, refl}
+use mathlib.Core.Logic.{inl, inr, ⊎-elim, _↔_}
+use native.Mathlib.Nat.{div-add-mod'}
+use native.Mathlib.Omega.{arith}
+use Rattle.definitions.specs.Words.{Mem}
+use Rattle.definitions.specs.Geometry.{span, part}
+use Rattle.definitions.specs.Inputs.{Job, Place, placeWith}
+use Rattle.definitions.specs.Ranges.{Kind, shift, decide, shifted}
+use Rattle.definitions.specs.Offset.{signed, Fits}
+use Rattle.definitions.specs.Pass1.{Moved, refuse, act}
+use Rattle.definitions.specs.Build.{geometryOf, geometry, height, planOf}
+use Rattle.definitions.specs.Demand.{Proper, Way, first, later, Reached, stopBefore, entryBefore, fate, Moves, MovedBy}
+use Rattle.definitions.specs.Conditions.{BadEntry, inTail, intoMoved, notWhole, tooFar, BadTables, bad, again, twice, taken, crowded, BadPlaces, onLeaf, inSpan, onPast, onTable, onOther, noRoom, Refusal, TooFar}
+use Rattle.definitions.proofs.Levels.{span-pos, part-step, part-first, part-below}
+use Rattle.definitions.proofs.Acts.{MovesAs, act-means}
+use Rattle.definitions.proofs.Refusals.{refuse-iff}
+use Rattle.definitions.proofs.Offsets.{deciding-offsets, decide-offset, target-shifted, past-iff}
+use Rattle.definitions.proofs.Checks.{bad-input-number, limit-field}
+use Rattle.demands.proofs.Sound.{plan-is}
+
+-- every address of a part that is reached is one that the root table maps
+way-part : (read : ℕ → ℕ → Kind) (m : Mem) (h₀ t₀ : ℕ) {t h p : ℕ} → Way read m h₀ t₀ t h p → (b : ℕ) → part h b ≡ p → part h₀ b ≡ 0
+way-part read m h₀ t₀ (first et eh ep) b e = rw (eh, ep) at e
+way-part read m h₀ t₀ (later {l = l} w hi eo ep) b e = way-part read m h₀ t₀ w b (omega (arith, part-step l b))
+
+part-le : (l b : ℕ) → part l b * span l ≤ b
+unfolding part
+part-le l b = omega (arith, div-add-mod' b (span l))
+
+-- of the geometries: every address that is walked is far below the sign bit
+walked-word : (j : Job) → span (height j) ≤ 2 ^ 63
+unfolding geometryOf span
+walked-word j = omega arith
+
+module _ (j : Job) (proper : Proper j) where
+  offset-word : (l a o : ℕ) → decide (planOf j .ranges) l a ≡ shift o → o < 2 ^ 64
+  unfolding planOf
+  offset-word l a o = decide-offset _ (deciding-offsets (j .region) (j .tableOffset) (j .words) (proper .offset) (proper .words)) l a o
+
+  pub moved-by : (b : ℕ) (x : Moved) → Moves j b x → MovedBy j b x
+  unfolding fate
+  moved-by b x m =
+      let l = stopBefore j b .level in
+      let a : MovesAs (planOf j) l (part l b * span l) (entryBefore j b) x = rw (m .moves) at (act-means (planOf j) l (part l b * span l) (entryBefore j b)) in
+      let lo : part l b * span l < 2 ^ 63 = omega (arith, part-le l b, m .walked, walked-word j) in
+      let hi : shifted (part l b * span l) (a .offset) < 2 ^ 63 = omega (arith, a .fits, plan-is j .limit, limit-field j, span-pos l) in
+      record {
+        offset = a .offset;
+        decided = rw (a .level) (a .decided);
+        target = rw (a .level, a .address) (target-shifted (part l b * span l) (a .offset) lo (offset-word l _ (a .offset) (a .decided)) hi);
+      }
+
+  -- ---- number 13
+
+  far-iff : (t l p i o : ℕ) → i < 512 → Reached j t (suc l) p → decide (planOf j .ranges) l ((p * 512 + i) * span l) ≡ shift o
+      → (planOf j .limit < shifted ((p * 512 + i) * span l) o + span l) ↔ (¬ Fits (geometry j .limit) ((p * 512 + i) * span l) (span l) (signed o))
+  far-iff t l p i o hi way ed =
+      let a : ℕ = (p * 512 + i) * span l in
+      let w = part-first l (p * 512 + i) in
+      let z = way-part _ _ _ _ way a (omega (arith, part-step l a, w)) in
+      let lo : a < 2 ^ 63 = omega (arith, part-below (height j) a z, walked-word j) in
+      rw (plan-is j .limit) (past-iff a o lo (offset-word l a o ed) (geometry j .limit) (omega (arith, limit-field j)) (span l) (span-pos l))
+
+  far-entry : (t l p i : ℕ) → i < 512 → Reached j t (suc l) p → (n : ℕ) (q : Place) → n ≡ 13 → BadEntry (planOf j) l ((p * 512 + i) * span l) (j .image (512 * t + i)) n q → TooFar j q
+  far-entry t l p i low way n q e (inTail ek h) = absurd (omega arith)
+  far-entry t l p i low way n q e (intoMoved ek h) = absurd (omega arith)
+  far-entry t l p i low way n q e (notWhole ek ed h) = absurd (omega arith)
+  far-entry t l p i low way n q e (tooFar {o} ek ed eo h) =
+      record { t = t; l = l; p = p; i = i; low = low; way = way; isLeaf = rw (plan-is j .old) at ek; offset = o; decided = ed; whole = eo; leaves = far-iff t l p i o low way ed .0 h; place = refl }
+
+  far-tables : (n : ℕ) (q : Place) → n ≡ 13 → BadTables j n q → TooFar j q
+  far-tables n q e (bad c) = far-entry (c .t) (c .l) (c .p) (c .i) (c .low) (c .way) n q e (refuse-iff (planOf j) (c .l) ((c .p * 512 + c .i) * span (c .l)) (j .image (512 * c .t + c .i)) n q .0 (c .acted))
+  far-tables n q e (again a w) = absurd (omega arith)
+  far-tables n q e (twice a b ne w) = absurd (omega arith)
+  far-tables n q e (taken a b ne d w) = absurd (omega arith)
+  far-tables n q e (crowded a xs d from more w) = absurd (omega arith)
+
+  places-number : (n : ℕ) (q : Place) → BadPlaces j n q → 15 < n
+  places-number n q (onLeaf m lo w st) = omega arith
+  places-number n q (inSpan m land lo) = omega arith
+  places-number n q (onPast m lo w) = omega arith
+  places-number n q (onTable m lo) = omega arith
+  places-number n q (onOther m el st some other) = omega arith
+  places-number n q (noRoom m lo le ps d need h) = omega arith
+
+  far-refused : (q : Place) → TooFar j q → Refusal j 13 q
+  far-refused q f =
+      let a : ℕ = (f .p * 512 + f .i) * span (f .l) in
+      let e : ℕ = j .image (512 * f .t + f .i) in
+      let w : act (planOf j) (f .l) a e ≡ refuse 13 (placeWith a (f .l) (f .offset)) =
+      refuse-iff (planOf j) (f .l) a e 13 (placeWith a (f .l) (f .offset)) .1
+      (tooFar (rw (plan-is j .old) (f .isLeaf)) (f .decided) (f .whole) (far-iff (f .t) (f .l) (f .p) (f .i) (f .offset) (f .low) (f .way) (f .decided) .1 (f .leaves))) in
+      inr (inl (bad {n = 13} {q = q} (record { t = f .t; l = f .l; p = f .p; i = f .i; low = f .low; way = f .way; acted = rw (f .place) w })))
+
+  -- 13 is given exactly where the true new span of a leaf is not within 0 and the bound
+  pub too-far-iff : (q : Place) → Refusal j 13 q ↔ TooFar j q
+  too-far-iff q = (
+    ⊎-elim (λ b. absurd (omega (arith, bad-input-number j 13 q b .1))) (⊎-elim (far-tables 13 q refl) (λ b. absurd (omega (arith, places-number 13 q b)))),
+    far-refused q,
+  )
