@@ -12,7 +12,7 @@ use lib.ListN.{getD}
 use borrow.Author.Tests.{ltb-true, ltb-false}
 use Rattle.definitions.specs.Geometry.{span}
 use Rattle.definitions.specs.Inputs.{Region, Range}
-use Rattle.definitions.specs.Ranges.{shifted, magnitude, rangesOf, joined, deciding, touches, touching, stay, shift, verdict, decide}
+use Rattle.definitions.specs.Ranges.{shifted, magnitude, rangesOf, joined, deciding, touches, touching, stay, shift, byOffset, verdict, decide}
 use Rattle.definitions.specs.Offset.{upBy, downBy, signed, absolute, Target, Fits}
 use Rattle.definitions.proofs.Splits.{onBool}
 
@@ -92,7 +92,7 @@ touching-offsets a n [] hs = tt
 touching-offsets a n (r ∷ rs) hs = let ih = touching-offsets a n rs (hs .1) in onBool (touches a n r) (λ e. rw e ih) (λ e. rw e (hs .0, ih))
 
 verdict-offset : (n : ℕ) (rs : List Range) → Offsets rs → (o : ℕ) → verdict n rs ≡ shift o → o < 2 ^ 64
-unfolding verdict
+unfolding verdict byOffset
 verdict-offset n [] hs o w = let z : _≡_ {A = ℕ} 0 1 = cc in absurd (omega arith)
 verdict-offset n (r ∷ rs) hs o w =
     onBool (ltb (magnitude (r .offset)) n)
