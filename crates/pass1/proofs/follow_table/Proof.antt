@@ -1,4 +1,5 @@
 use Rattle.pass1.proofs.Pointing.{opens-free, opens-again, opens-down, to-fits}
+use Rattle.reached.proofs.Laws.{marked-low}
 use native.Mathlib.Omega.{arith}
 use mathlib.Core.Path.{_≡_, refl, sym, ap, subst, _∙_}
 use borrow.Author.Needs.{needs}
@@ -17,8 +18,8 @@ returns c =
     let p = c .before .before .before .before .before .before .pre in
     opens-free (a .job) (a .spot) _ (a .state) (a .target) (p .1 .1 .0) (a .next) (p .1 .1 .1) (c .before .before .if1 .taken) _ _ (c .before .refused .ensures) (c .done .ensures)
 
-ask-requires : tie.Need-ask-requires
-ask-requires c κs = search needs
+mark-and-ask-requires : tie.Need-mark-and-ask-requires
+mark-and-ask-requires c κs = search needs
 
 refused-requires-2 : tie.Need-refused-requires-2
 refused-requires-2 c κs = search needs
@@ -30,7 +31,7 @@ returns-2 : tie.Need-returns-2
 returns-2 c =
     let a = c .before .before .before .before .before .before .before .before .before .args in
     let p = c .before .before .before .before .before .before .before .before .before .pre in
-    opens-again (a .job) (a .spot) _ (a .state) (a .target) (p .1 .1 .0) (a .next) (p .1 .1 .1) (c .before .before .before .before .before .if1 .left) (sym (c .before .before .before .ask .ensures) ∙ c .before .before .if2 .taken) _ _ (c .before .refused2 .ensures) (c .done2 .ensures)
+    opens-again (a .job) (a .spot) _ (a .state) (a .target) (p .1 .1 .0) (a .next) (p .1 .1 .1) (c .before .before .before .before .before .if1 .left) (sym (c .before .before .before .mark-and-ask .ensures .1) ∙ c .before .before .if2 .taken) _ _ (c .before .refused2 .ensures) (c .done2 .ensures)
 
 wrapping-add-u64-requires : tie.Need-wrapping-add-u64-requires
 wrapping-add-u64-requires c κs = search needs
@@ -44,9 +45,6 @@ with-address-requires c κs =
 write-word-requires : tie.Need-write-word-requires
 write-word-requires c κs = search needs
 
-mark-requires : tie.Need-mark-requires
-mark-requires c κs = search needs
-
 same-length : tie.Need-same-length
 same-length c = search needs
 
@@ -54,7 +52,7 @@ returns-3 : tie.Need-returns-3
 returns-3 c =
     let a = c .before .before .before .before .before .before .before .before .before .before .before .before .before .before .args in
     let p = c .before .before .before .before .before .before .before .before .before .before .before .before .before .before .pre in
-    opens-down (a .job) (a .spot) _ (a .state) (a .target) (p .1 .1 .0) (a .next) (p .1 .1 .1) (c .before .before .before .before .before .before .before .before .before .before .if1 .left) (sym (c .before .before .before .before .before .before .before .before .ask .ensures) ∙ c .before .before .before .before .before .before .before .if2 .left) (p .1 .0 .runs) _ _ (c .before .before .before .before .before .before .wrapping-add-u64 .ensures) (c .before .before .before .before .before .with-address .ensures) _ (c .before .before .before .write-word .ensures .0) _ (c .mark .ensures)
+    opens-down (a .job) (a .spot) _ (a .state) (a .target) (p .1 .1 .0) (a .next) (p .1 .1 .1) (c .before .before .before .before .before .before .before .before .before .before .if1 .left) (sym (c .before .before .before .before .before .before .before .before .mark-and-ask .ensures .1) ∙ c .before .before .before .before .before .before .before .if2 .left) (p .1 .0 .runs) _ _ (c .before .before .before .before .before .before .wrapping-add-u64 .ensures) (c .before .before .before .before .before .with-address .ensures) _ (c .before .before .before .write-word .ensures .0) _ (c .before .before .before .before .before .before .before .before .mark-and-ask .ensures .0 ∙ marked-low _ _ (omega arith))
 
 pub follow-table-spec : {M : Type 1} → statement M
 follow-table-spec =
@@ -63,13 +61,12 @@ follow-table-spec =
     refused-requires
     done-requires
     returns
-    ask-requires
+    mark-and-ask-requires
     refused-requires-2
     done-requires-2
     returns-2
     wrapping-add-u64-requires
     with-address-requires
     write-word-requires
-    mark-requires
     same-length
     returns-3)
