@@ -9,9 +9,7 @@ use native.Mathlib.Omega.{arith}
 use lib.Dec.{eqb}
 use lib.ListN.{length, getD}
 use lib.Seq.{ext-getD}
-use borrow.Author.Tests.{eq-eqb, ne-eqb}
 use Rattle.definitions.specs.Words.{Tables}
-use Rattle.definitions.proofs.Splits.{onEq}
 use Rattle.reached.specs.Held.{bits, setOf}
 use Rattle.reached.specs.declared.Reached.{Reached}
 
