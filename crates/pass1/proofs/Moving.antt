@@ -17,7 +17,8 @@ use Rattle.definitions.specs.Step.{Step, go, stop, unless, andThen}
 use Rattle.definitions.specs.Pass1.{Plan, Moved, State, taken, remember, moveAct, leafAct, kindAct, act, perform}
 use Rattle.definitions.proofs.Pass1.{act-absent, act-stay}
 use Rattle.definitions.proofs.Steps.{unless-then}
-use Rattle.entry.proofs.Bits.{pages, page-fits}
+use Rattle.definitions.proofs.Levels.{page-fits}
+use Rattle.entry.proofs.Bits.{pages}
 use Rattle.moved.specs.View.{leaf, leavesOf, keptStep, KeptIn, Keeps, Held}
 use Rattle.moved.specs.declared.Store.{Store}
 use Rattle.moved.specs.declared.Kept.{Kept}
