@@ -2,17 +2,17 @@
 -- buffer's end. Assumes nothing.
 use mathlib.Core.Path.{_≡_, refl, sym, ap, ap₂, _∙_, fun-ext}
 use mathlib.Core.List.{List}
-use Prim.Native.Nat.{ℕ, zero, suc, _+_, _*_, _/_, _%_, _^_, _≤_, _<_}
+use Prim.Native.Nat.{ℕ, zero, suc, _+_, _*_, _/_, _%_, _^_, _<_}
 use native.Mathlib.Nat.{mod-one, pow-suc, pow-succ', zero-lt-suc, one-le-pow, zero-add, add-zero, add-suc, suc-add, div-one, div-eq-of-lt, div-div-eq-div-mul}
 use native.Mathlib.Decide.{decLt}
 use native.Mathlib.Omega.{arith}
 use lib.Arith.{mod-mul}
-use lib.ListN.{length, getD, List·getD-eq-default}
+use lib.ListN.{getD, List·getD-eq-default}
 use Rattle.definitions.specs.Words.{Mem, number, wordsOf, byteOf, bytesOf}
 use Rattle.definitions.proofs.Words.{length-bytes, bytes-at}
 
 -- a number whose bytes are those of v
-pub number-of-bytes : (n : ℕ) (xs : List ℕ) (p v : ℕ) → ((i : ℕ) → i < n → getD xs (p + i) 0 ≡ v / 256 ^ i % 256) → number n xs p ≡ v % 256 ^ n
+number-of-bytes : (n : ℕ) (xs : List ℕ) (p v : ℕ) → ((i : ℕ) → i < n → getD xs (p + i) 0 ≡ v / 256 ^ i % 256) → number n xs p ≡ v % 256 ^ n
 unfolding number
 number-of-bytes zero xs p v h = sym (mod-one v)
 number-of-bytes (suc n) xs p v h =

@@ -1,12 +1,12 @@
 -- The bytes of an accepted build's output: their words are the words that demand 3 speaks of (output-words), so its walks are
 -- walks in the buffer. Assumes nothing.
-use Prim.Native.Nat.{ℕ, zero, suc, _+_, _*_, _/_, _%_, _^_, _≤_, _<_}
-use mathlib.Core.Path.{_≡_, refl, _∙_, ap}
+use Prim.Native.Nat.{ℕ, zero, suc, _+_, _*_, _/_, _%_, _^_, _<_}
+use mathlib.Core.Path.{_≡_, refl}
 use mathlib.Core.List.{List, List·Memᴰ}
 use mathlib.Core.Logic.{⊎-elim}
 use native.Mathlib.Decide.{decLe}
 use native.Mathlib.Omega.{arith}
-use Rattle.definitions.specs.Words.{Mem, wordsOf}
+use Rattle.definitions.specs.Words.{wordsOf}
 use Rattle.definitions.specs.Geometry.{span}
 use Rattle.definitions.specs.Entry.{withField, withLeafAddress, withAddress, freshTable}
 use Rattle.definitions.specs.Inputs.{Job}
@@ -20,10 +20,10 @@ use Rattle.definitions.proofs.Regions.{region-aligned}
 use Rattle.definitions.proofs.Acts.{Means, act-means}
 use Rattle.definitions.proofs.Buffers.{words-bytes}
 use Rattle.demands.proofs.Insert.{Puts}
-use Rattle.demands.proofs.Sound.{paging, passing, plan-is, sound, moved-pointer, new-table}
+use Rattle.demands.proofs.Sound.{paging, plan-is, sound, moved-pointer, new-table}
 use Rattle.demands.proofs.Bridge.{moved, old}
 use Rattle.demands.proofs.Exact.{used-fits}
-use Rattle.demands.proofs.Outcome.{Ran, accepts, accepted-used, accepted-output}
+use Rattle.demands.proofs.Outcome.{Ran, accepts, accepted-output}
 
 -- entries with an address set are words
 
