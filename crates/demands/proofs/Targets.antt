@@ -10,25 +10,20 @@ use Rattle.definitions.specs.Inputs.{Job, Place, placeWith}
 use Rattle.definitions.specs.Ranges.{shift, decide, shifted}
 use Rattle.definitions.specs.Offset.{signed, Fits}
 use Rattle.definitions.specs.Pass1.{Moved, refuse, act}
-use Rattle.definitions.specs.Build.{geometryOf, geometry, height, planOf}
+use Rattle.definitions.specs.Build.{geometry, height, planOf}
 use Rattle.definitions.specs.Demand.{Proper, Reached, stopBefore, entryBefore, fate, Moves, MovedBy}
 use Rattle.definitions.specs.Conditions.{BadEntry, inTail, intoMoved, notWhole, tooFar, BadTables, bad, again, twice, taken, crowded, BadPlaces, onLeaf, inSpan, onPast, onTable, onOther, noRoom, Refusal, TooFar}
 use Rattle.definitions.proofs.Levels.{span-pos, part-step, part-first, part-below}
 use Rattle.definitions.proofs.Acts.{MovesAs, act-means}
 use Rattle.definitions.proofs.Refusals.{refuse-iff}
 use Rattle.definitions.proofs.Offsets.{deciding-offsets, decide-offset, target-shifted, past-iff}
-use Rattle.definitions.proofs.Checks.{bad-input-number, limit-field}
+use Rattle.definitions.proofs.Checks.{bad-input-number, limit-field, walked-word}
 use Rattle.demands.proofs.Visit.{way-part}
 use Rattle.demands.proofs.Sound.{plan-is}
 
 part-le : (l b : ℕ) → part l b * span l ≤ b
 unfolding part
 part-le l b = omega (arith, div-add-mod' b (span l))
-
--- of the geometries: every address that is walked is far below the sign bit
-walked-word : (j : Job) → span (height j) ≤ 2 ^ 63
-unfolding geometryOf span
-walked-word j = omega arith
 
 module _ (j : Job) (proper : Proper j) where
   offset-word : (l a o : ℕ) → decide (planOf j .ranges) l a ≡ shift o → o < 2 ^ 64
