@@ -2,15 +2,14 @@
 -- Assumes nothing.
 use mathlib.Core.Path.{_≡_, refl}
 use mathlib.Core.Bool.{Bool, true, false, not, _||_}
-use Prim.Native.Nat.{ℕ, _/_, _%_, _≤_}
+use Prim.Native.Nat.{ℕ, _≤_}
 use native.Mathlib.Omega.{arith}
 use lib.Dec.{eqb, ltb}
 use borrow.Author.Tests.{eq-eqb, ne-eqb, lt-ltb, le-leb}
 use Rattle.definitions.specs.Inputs.{Job, Place}
 use Rattle.definitions.specs.Step.{Step, go, stop, unless, andThen}
-use Rattle.definitions.specs.Ranges.{usedTables}
 use Rattle.definitions.specs.Pass1.{State}
-use Rattle.definitions.specs.Build.{root, start, refused, result, passes, build}
+use Rattle.definitions.specs.Build.{start, refused, result, passes, build}
 use Rattle.definitions.specs.Conditions.{BadInput, badRegion, badImage, badOutput, badLevels, badRoot, badOffset, badList, badRanges, freeRoot}
 
 abbrev Stops : ℕ → Step State → Type 0
