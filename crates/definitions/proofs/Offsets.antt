@@ -4,17 +4,18 @@ use mathlib.Core.Path.{_≡_, refl}
 use mathlib.Core.Bool.{Bool, true, false, cond}
 use mathlib.Core.Logic.{_↔_}
 use mathlib.Core.List.{List, [], _∷_}
-use Prim.Native.Nat.{ℕ, suc, _+_, _-_, _^_, _≤_, _<_}
+use Prim.Native.Nat.{ℕ, suc, _+_, _-_, _%_, _^_, _≤_, _<_}
 use native.Mathlib.Decide.{decLe}
 use native.Mathlib.Omega.{arith}
 use lib.Dec.{ltb, eqb}
 use lib.ListN.{getD}
-use borrow.Author.Tests.{ltb-true, ltb-false}
+use borrow.Author.Tests.{ltb-true, ltb-false, eq-eqb, le-leb}
 use Rattle.definitions.specs.Geometry.{span}
 use Rattle.definitions.specs.Inputs.{Region, Range}
-use Rattle.definitions.specs.Ranges.{shifted, magnitude, rangesOf, joined, deciding, touches, touching, stay, shift, byOffset, verdict, decide}
+use Rattle.definitions.specs.Ranges.{shifted, magnitude, offsetOk, rangesOf, joined, deciding, touches, touching, stay, shift, byOffset, verdict, decide}
 use Rattle.definitions.specs.Offset.{upBy, downBy, signed, absolute, Target, Fits}
 use Rattle.definitions.proofs.Splits.{onBool}
+use Rattle.definitions.proofs.Regions.{offset-aligned}
 
 -- how far an offset moves is its absolute value
 pub magnitude-absolute : (o : ℕ) → magnitude o ≡ absolute (signed o)
@@ -63,6 +64,14 @@ module _ (a o : ℕ) (low : a < 2 ^ 63) (word : o < 2 ^ 64) where
     -- of one address: a true target outside 0 to the bound shows as the bound or more, and no other does
     pub outside-iff : (limit ≤ shifted a o) ↔ (¬ Fits limit a 1 (signed o))
     outside-iff = ((λ h. past-iff 1 (omega arith) .0 (omega arith)), λ out. omega (arith, past-iff 1 (omega arith) .1 out))
+
+-- the rule of number 7, in true numbers: whole tables, and the moved region within 0 and the bound
+pub offset-ok-iff : (limit : ℕ) → limit ≤ 2 ^ 63 → (r : Region) → r .gpa < 2 ^ 63 → 0 < r .size → (o : ℕ) → o < 2 ^ 64 → (offsetOk limit r o ≡ true) ↔ ((o % 4096 ≡ 0) × Fits limit (r .gpa) (r .size) (signed o))
+unfolding offsetOk
+offset-ok-iff limit most r low pos o word = (
+  (λ h. let c = offset-aligned limit r o h in (c .0, fits-iff (r .gpa) o low word limit most (r .size) pos .0 (c .1))),
+  λ f. rw (eq-eqb (o % 4096) 0 (f .0), le-leb (shifted (r .gpa) o + r .size) limit (fits-iff (r .gpa) o low word limit most (r .size) pos .1 (f .1))) refl,
+)
 
 -- ---- the offsets of the ranges are words
 

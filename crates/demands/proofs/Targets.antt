@@ -5,35 +5,25 @@ use mathlib.Core.Path.{_≡_, refl}
 use mathlib.Core.Logic.{inl, inr, ⊎-elim, _↔_}
 use native.Mathlib.Nat.{div-add-mod'}
 use native.Mathlib.Omega.{arith}
-use Rattle.definitions.specs.Words.{Mem}
 use Rattle.definitions.specs.Geometry.{span, part}
 use Rattle.definitions.specs.Inputs.{Job, Place, placeWith}
-use Rattle.definitions.specs.Ranges.{Kind, shift, decide, shifted}
+use Rattle.definitions.specs.Ranges.{shift, decide, shifted}
 use Rattle.definitions.specs.Offset.{signed, Fits}
 use Rattle.definitions.specs.Pass1.{Moved, refuse, act}
-use Rattle.definitions.specs.Build.{geometryOf, geometry, height, planOf}
-use Rattle.definitions.specs.Demand.{Proper, Way, first, later, Reached, stopBefore, entryBefore, fate, Moves, MovedBy}
+use Rattle.definitions.specs.Build.{geometry, height, planOf}
+use Rattle.definitions.specs.Demand.{Proper, Reached, stopBefore, entryBefore, fate, Moves, MovedBy}
 use Rattle.definitions.specs.Conditions.{BadEntry, inTail, intoMoved, notWhole, tooFar, BadTables, bad, again, twice, taken, crowded, BadPlaces, onLeaf, inSpan, onPast, onTable, onOther, noRoom, Refusal, TooFar}
 use Rattle.definitions.proofs.Levels.{span-pos, part-step, part-first, part-below}
 use Rattle.definitions.proofs.Acts.{MovesAs, act-means}
 use Rattle.definitions.proofs.Refusals.{refuse-iff}
 use Rattle.definitions.proofs.Offsets.{deciding-offsets, decide-offset, target-shifted, past-iff}
-use Rattle.definitions.proofs.Checks.{bad-input-number, limit-field}
+use Rattle.definitions.proofs.Checks.{bad-input-number, limit-field, walked-word}
+use Rattle.demands.proofs.Visit.{way-part}
 use Rattle.demands.proofs.Sound.{plan-is}
-
--- every address of a part that is reached is one that the root table maps
-way-part : (read : ℕ → ℕ → Kind) (m : Mem) (h₀ t₀ : ℕ) {t h p : ℕ} → Way read m h₀ t₀ t h p → (b : ℕ) → part h b ≡ p → part h₀ b ≡ 0
-way-part read m h₀ t₀ (first et eh ep) b e = rw (eh, ep) at e
-way-part read m h₀ t₀ (later {l = l} w hi eo ep) b e = way-part read m h₀ t₀ w b (omega (arith, part-step l b))
 
 part-le : (l b : ℕ) → part l b * span l ≤ b
 unfolding part
 part-le l b = omega (arith, div-add-mod' b (span l))
-
--- of the geometries: every address that is walked is far below the sign bit
-walked-word : (j : Job) → span (height j) ≤ 2 ^ 63
-unfolding geometryOf span
-walked-word j = omega arith
 
 module _ (j : Job) (proper : Proper j) where
   offset-word : (l a o : ℕ) → decide (planOf j .ranges) l a ≡ shift o → o < 2 ^ 64

@@ -4,7 +4,7 @@ use Prim.Native.Nat.{ℕ, suc, _+_, _*_, _/_, _%_, _≤_, _<_}
 use mathlib.Core.Path.{_≡_, refl, sym, _∙_, ap}
 use mathlib.Core.Bool.{true, false}
 use mathlib.Core.List.{List·Memᴰ}
-use mathlib.Core.Logic.{_⊎_, inl, inr, ⊎-elim}
+use mathlib.Core.Logic.{_⊎_, inl, inr, ⊎-elim, _↔_}
 use native.Mathlib.Omega.{arith}
 use Rattle.definitions.specs.Words.{Mem}
 use Rattle.definitions.specs.Geometry.{part}
@@ -23,7 +23,7 @@ use Rattle.demands.proofs.Insert.{at, Puts, Wrote, ended}
 use Rattle.demands.proofs.Visit.{Sound}
 use Rattle.demands.proofs.Sound.{paging, passing, sound}
 use Rattle.demands.proofs.Final.{fits, tables-before}
-use Rattle.demands.proofs.Bridge.{moved}
+use Rattle.demands.proofs.Bridge.{addr, moved}
 use Rattle.demands.proofs.Outcome.{Ran, accepted-used, accepted-output}
 
 -- a walk that finds nothing ends at an absent entry
@@ -77,6 +77,10 @@ module _ (j : Job) (proper : Proper j) (R : Ran j (build j)) where
   unfolding readsBefore
   is-read t e = let r = R .fixed .read t e in (r .0, part-below (height j) (r .0) (r .1), r .2)
 
+  read-iff : (t : ℕ) → IsRead j t ↔ ((l : ℕ) × (p : ℕ) × Reached j t (suc l) p)
+  unfolding readsBefore
+  read-iff t = ((λ r. R .fixed .way t (R .fixed .seen (r .0) (addr j (r .0) (r .1)) t (r .2))), λ w. is-read t (R .fixed .ways (w .2) (omega arith) .0))
+
   at-word : (k : ℕ) → build j .output k ≡ R .f .mem k
   at-word k = ap (λ (m : Mem). m k) (accepted-output j R)
 
@@ -107,4 +111,4 @@ module _ (j : Job) (proper : Proper j) (R : Ran j (build j)) where
       (R .filled .news k (omega (arith, region-aligned (geometry j .limit) (j .region) (R .good .region) .used))))
 
   pub untouched : Untouched j
-  untouched = record { unread = unread; entries = entries; fresh = fresh; zeros = λ k h. at-word k ∙ R .filled .good .free k (omega (arith, accepted-used j R)) }
+  untouched = record { read = read-iff; unread = unread; entries = entries; fresh = fresh; zeros = λ k h. at-word k ∙ R .filled .good .free k (omega (arith, accepted-used j R)) }
