@@ -1,6 +1,5 @@
 use Rattle.pass1.proofs.Pointing.{opens-free, opens-again, opens-down, to-fits}
-use native.Mathlib.Omega.{arith}
-use mathlib.Core.Path.{_≡_, refl, sym, ap, subst, _∙_}
+use mathlib.Core.Path.{sym, _∙_}
 use borrow.Author.Needs.{needs}
 use Rattle.pass1.proofs.follow_table.Statement.{statement}
 use Rattle.pass1.proofs.follow_table.Tie as tie

@@ -3,7 +3,7 @@ use Rattle.definitions.specs.Ranges.{shifted}
 use Rattle.definitions.specs.Geometry.{span}
 use Prim.Native.Nat.{ℕ, _%_}
 use native.Mathlib.Omega.{arith}
-use mathlib.Core.Path.{_≡_, refl, sym, ap, subst, _∙_}
+use mathlib.Core.Path.{_≡_, sym, ap, _∙_}
 use borrow.Author.Needs.{needs}
 use Rattle.pass1.proofs.move_leaf.Statement.{statement}
 use Rattle.pass1.proofs.move_leaf.Tie as tie

@@ -1,7 +1,6 @@
 use Rattle.pass1.proofs.Pointing.{opens-moved, opens-outside}
 use Rattle.region.specs.Meaning.{indexOf}
-use native.Mathlib.Omega.{arith}
-use mathlib.Core.Path.{_≡_, refl, sym, ap, subst, _∙_}
+use mathlib.Core.Path.{sym, ap, _∙_}
 use borrow.Author.Needs.{needs}
 use Rattle.pass1.proofs.pass_outside.Statement.{statement}
 use Rattle.pass1.proofs.pass_outside.Tie as tie

@@ -1,7 +1,7 @@
 use Rattle.pass1.proofs.Moving.{told-absent, told-stay, told-by}
 use borrow.Author.Tests.{not-true, not-false}
 use native.Mathlib.Omega.{arith}
-use mathlib.Core.Path.{_≡_, refl, sym, ap, subst, _∙_}
+use mathlib.Core.Path.{sym, _∙_}
 use borrow.Author.Needs.{needs}
 use Rattle.pass1.proofs.task_at.Statement.{statement}
 use Rattle.pass1.proofs.task_at.Tie as tie
