@@ -22,6 +22,7 @@ use Rattle.moved.specs.View.{leavesOf}
 use Rattle.reached.specs.Held.{setOf}
 use Rattle.reached.specs.declared.Reached.{Reached}
 use Rattle.region.specs.Meaning.{regionOf}
+use Rattle.region.proofs.Laws.{in-table, in-no-table}
 use Rattle.pass1.specs.declared.Job.{Job}
 use Rattle.pass1.specs.declared.Walk.{Walk}
 use Rattle.pass1.specs.declared.Spot.{Spot}
@@ -33,28 +34,9 @@ use Rattle.pass1.proofs.Moving.{outcome-go}
 nay : {A : Type 0} → _≡_ {A = ℕ} 0 1 → A
 nay e = absurd (omega arith)
 
--- ---- the table that an address is in
-
-module _ (r : Region) (a : ℕ) where
-  pub in-table : (i : ℕ) → tableIn r a ≡ some i → (within r a ≡ true) × (tableAt r a ≡ i)
-  unfolding tableIn
-  in-table i e = turn (within r a) refl e
-    where
-      turn : (b : Bool) → within r a ≡ b → cond b (some (tableAt r a)) none ≡ some i → (within r a ≡ true) × (tableAt r a ≡ i)
-      turn true eb h = (eb, cc)
-      turn false eb h = nay (cc)
-
-  pub in-no-table : tableIn r a ≡ none → within r a ≡ false
-  unfolding tableIn
-  in-no-table e = turn (within r a) refl e
-    where
-      turn : (b : Bool) → within r a ≡ b → cond b (some (tableAt r a)) none ≡ none → within r a ≡ false
-      turn true eb h = nay (cc)
-      turn false eb h = eb
-
-  bounds : within r a ≡ true → (r .gpa ≤ a) × (a < r .gpa + r .size)
-  unfolding within
-  bounds h = (leb-true _ _ (and-l (leb (r .gpa) a) (ltb a (r .gpa + r .size)) h), ltb-true _ _ (and-r (leb (r .gpa) a) (ltb a (r .gpa + r .size)) h))
+bounds : (r : Region) (a : ℕ) → within r a ≡ true → (r .gpa ≤ a) × (a < r .gpa + r .size)
+unfolding within
+bounds r a h = (leb-true _ _ (and-l (leb (r .gpa) a) (ltb a (r .gpa + r .size)) h), ltb-true _ _ (and-r (leb (r .gpa) a) (ltb a (r .gpa + r .size)) h))
 
 pointer-level : (l e : ℕ) → pointer l e ≡ true → 1 ≤ l
 unfolding pointer

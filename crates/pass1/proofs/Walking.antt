@@ -1,9 +1,8 @@
 -- An entry with what is below it, the entries of a table, and the beginning.
 -- Assumes nothing.
 use mathlib.Core.Path.{_≡_, refl, sym, ap, ap₂, subst, _∙_}
-use mathlib.Core.Option.{none}
-use mathlib.Core.List.{List, []}
-use Prim.Native.Nat.{ℕ, zero, suc, _+_, _-_, _*_, _/_, _%_, _^_, _≤_, _<_}
+use mathlib.Core.List.{List}
+use Prim.Native.Nat.{ℕ, suc, _+_, _-_, _*_, _/_, _%_, _^_, _≤_, _<_}
 use native.Mathlib.Omega.{arith}
 use native.Mathlib.Nat.{suc-mul, mul-le-mul-right, div-add-mod'}
 use lib.Arith.{digits-mod}
@@ -13,9 +12,9 @@ use Rattle.definitions.specs.Words.{Mem, Tables, slot, mark, noTables}
 use Rattle.definitions.specs.Geometry.{span}
 use Rattle.definitions.specs.Step.{Step, andThen, times}
 use Rattle.definitions.specs.Pass1.{Plan, Moved, State, Act, keep, moveAct, act, perform, visit, walkTable}
-use Rattle.moved.specs.View.{gather, Held, Empty}
+use Rattle.moved.specs.View.{Held, Empty}
+use Rattle.moved.proofs.Leaves.{empty-leaves}
 use Rattle.reached.specs.Held.{setOf}
-use Rattle.moved.specs.declared.Store.{Store}
 use Rattle.pass1.specs.declared.Job.{Job}
 use Rattle.pass1.specs.declared.Walk.{Walk}
 use Rattle.pass1.specs.declared.Spot.{Spot}
@@ -163,17 +162,6 @@ left i h = omega arith
 
 -- ---- the beginning
 
-gather-none : (n : ℕ) (g : ℕ → Moved) → n ≡ 0 → gather n g 0 ≡ []
-unfolding gather
-gather-none zero g e = refl
-gather-none (suc n) g e = absurd (omega arith)
-
-pub held-empty : (xs : List ℕ) (s : Store) → Empty s → Held xs s
-held-empty xs s e =
-    let f = e .front in
-    let b = e .back in
-    record { fits = omega arith; ascending = λ i j h k. absurd (omega arith) }
-
 pub lies-root : Lies 4 0
 unfolding span
 lies-root = record { whole = refl; low = omega arith }
@@ -181,11 +169,8 @@ lies-root = record { whole = refl; low = omega arith }
 pub first-is : (j : Job) (ws : List ℕ) (t : ℕ) (m : Mem) (xs : List ℕ) (w : Walk) (m′ : Mem) (ys : List ℕ) (r : Walk)
     → setOf (w .reached) ≡ mark noTables t → Empty (w .store) → Walked j ws t 3 0 m xs w m′ ys r → First j ws t m (length xs) m′ ys r
 first-is j ws t m xs w m′ ys r es e d =
-    let f = e .front in
-    let b = e .back in
-    let none : w .store .front + w .store .back ≡ 0 = omega arith in
     record {
-      step = d .step ∙ ap₂ (λ (y : Tables) (z : List Moved). walkTable (planOf j ws (length xs)) 4 0 t (record { mem = m; reached = y; moved = z })) es (gather-none (w .store .front + w .store .back) _ none);
+      step = d .step ∙ ap₂ (λ (y : Tables) (z : List Moved). walkTable (planOf j ws (length xs)) 4 0 t (record { mem = m; reached = y; moved = z })) es (empty-leaves xs (w .store) e);
       held = d .held;
       long = d .long;
     }

@@ -1,0 +1,3 @@
+pub mod Buffers
+pub mod Calls
+pub mod One

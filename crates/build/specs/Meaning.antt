@@ -1,0 +1,61 @@
+-- What the types of the code mean in the definitions, and what each function says.
+-- Assumes nothing.
+use mathlib.Core.Path.{_≡_}
+use mathlib.Core.List.{List}
+use Prim.Native.Nat.{ℕ}
+use lib.ListN.{length, replicate}
+use Rattle.definitions.specs.Words.{Mem, wordsOf}
+use Rattle.definitions.specs.Inputs as I
+use Rattle.definitions.specs.Step.{stop}
+use Rattle.definitions.specs.Build.{root, start, refused, build, outputBytes}
+use Rattle.definitions.proofs.Checks.{Good}
+use Rattle.region.specs.Meaning.{regionOf}
+use Rattle.region.specs.declared.Region.{Region}
+use Rattle.pass1.specs.Walks.{placeOf}
+use Rattle.pass1.specs.declared.Place.{Place}
+use Rattle.build.specs.declared.Report.{Report}
+use Rattle.build.specs.declared.Start.{Start}
+use Rattle.build.specs.declared.Start.the-variants.{Root, Refused}
+use Rattle.build.specs.declared.Ended.{Ended}
+use Rattle.build.specs.declared.Ended.the-variants.{Accepted, Stopped}
+
+abbrev pub reportOf : Report → I.Report
+reportOf p = record {
+  number = p .number;
+  used = p .used;
+  moved = p .moved;
+  merged = p .merged;
+  reached = p .reached;
+  place = placeOf (p .place);
+}
+
+-- the checks: all passed, and t is the root's table; or the first that applies
+abbrev pub Starts : I.Job → Start → Type 0
+Starts j (Root t) = Good j × (t ≡ root j)
+Starts j (Refused n p) = start j ≡ stop n (placeOf p)
+
+-- the passes are called for job j: its checks passed, and the output holds its image
+pub record Ready (j : I.Job) (r : Region) (o : ℕ) (ws : List ℕ) (t : ℕ) (out scratch : List ℕ) : Type 0 where
+  pub good : Good j
+  pub region : j .region ≡ regionOf r
+  pub offset : j .tableOffset ≡ o
+  pub words : j .words ≡ ws
+  pub root : t ≡ root j
+  pub image : wordsOf out ≡ j .image
+  pub output : length out ≡ j .outputLength
+  pub room : length scratch ≡ j .scratchLength
+
+abbrev pub Passes : I.Job → Mem → Ended → Type 0
+Passes j m (Accepted p) = (reportOf p ≡ build j .report) × (m ≡ build j .output)
+Passes j m (Stopped n p) = build j ≡ refused n (placeOf p)
+
+pub record Refuses (n : ℕ) (q : Place) (p : Report) (bytes words bytes′ words′ : List ℕ) : Type 0 where
+  pub report : reportOf p ≡ refused n (placeOf q) .report
+  pub output : bytes′ ≡ replicate (length bytes) 0
+  pub scratch : words′ ≡ replicate (length words) 0
+
+-- what a build promises, with n words of scratch: the report, every byte of the output and every word of the scratch
+pub record Builds (j : I.Job) (n : ℕ) (p : Report) (bytes words : List ℕ) : Type 0 where
+  pub report : reportOf p ≡ build j .report
+  pub output : bytes ≡ outputBytes j
+  pub scratch : words ≡ replicate n 0

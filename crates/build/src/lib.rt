@@ -1,0 +1,214 @@
+// The build: the checks, both passes, and the report.
+use pass1::Job;
+use pass1::Place;
+use pass2::Outcome;
+use region::Region;
+use region::TableIndex;
+ghost use mathlib.Core.Path.{_≡_};
+ghost use mathlib.Core.List.{_++_};
+ghost use Prim.Native.Nat.{ℕ, _-_, _≤_};
+ghost use lib.ListN.{length, take, drop, replicate};
+ghost use Rattle.definitions.specs.Inputs as I;
+ghost use Rattle.definitions.specs.Words.{wordsOf};
+ghost use Rattle.definitions.specs.Build.{jobOf};
+ghost use Rattle.region.specs.Meaning.{regionOf};
+ghost use Rattle.pass1.specs.Walks.{placeOf};
+ghost use Rattle.build.specs.Meaning.{Starts, Ready, Passes, Refuses, Builds};
+
+pub struct CpuPagingState {
+    pub cr3: u64,
+    pub cr4: u64,
+}
+
+pub struct Report {
+    pub number: u64,
+    pub used: u64,
+    pub moved: u64,
+    pub merged: u64,
+    pub reached: u64,
+    pub place: Place,
+}
+
+// What the checks before pass 1 give: the root's table, or the first refusal that applies.
+pub enum Start {
+    Root(usize),
+    Refused(u64, Place),
+}
+
+// How the passes end.
+pub enum Ended {
+    Accepted(Report),
+    Stopped(u64, Place),
+}
+
+fn nowhere() -> Place
+    ensures { λ p. ⌜ placeOf p ≡ I.nowhere ⌝ }
+{
+    Place {
+        address: 0,
+        level: 0,
+        offset: 0,
+    }
+}
+
+// Zeroes the bytes from `from` on.
+fn clear_from(out: &mut [u8], from: usize)
+    requires { ⌜ from ≤ length (now out) ⌝ }
+    ensures { λ _. ⌜ now (out .exit) ≡ take from (now (out .entry)) ++ replicate (length (now (out .entry)) - from) 0 ⌝ }
+{
+    let mut i = from;
+    while i < out.len() {
+        out[i] = 0;
+        i += 1;
+    }
+}
+
+// Copies the image to the front of the output.
+fn copy_image(out: &mut [u8], image: &[u8])
+    requires { ⌜ length (now image) ≤ length (now out) ⌝ }
+    ensures { λ _. ⌜ now (out .exit) ≡ now (image .entry) ++ drop (length (now (image .entry))) (now (out .entry)) ⌝ }
+{
+    let mut i: usize = 0;
+    while i < image.len() {
+        out[i] = image[i];
+        i += 1;
+    }
+}
+
+// The checks before pass 1, in order.
+fn check_inputs(
+    image: &[u8],
+    extent: usize,
+    ranges: &[u64],
+    r: Region,
+    cpu: CpuPagingState,
+    offset: u64,
+) -> Start
+    ensures { λ s. ⌜ ((n : ℕ) → Starts (jobOf (regionOf r) (cpu .cr3) (cpu .cr4) offset (now (ranges .entry)) (now (image .entry)) extent n) s) ⌝ }
+{
+    let none = nowhere();
+    if !region::valid(r) {
+        return Start::Refused(1, none);
+    }
+    if image.len() as u64 != r.used {
+        return Start::Refused(4, none);
+    }
+    if (extent as u64) < r.size {
+        return Start::Refused(4, none);
+    }
+    if cpu.cr4 / 0x1000 % 2 == 1 {
+        return Start::Refused(5, none);
+    }
+    let found = region::calculate_page_table_index(r, cpu.cr3);
+    let TableIndex::At(table) = found else {
+        return Start::Refused(6, none);
+    };
+    if !region::offset_valid(r, offset) {
+        return Start::Refused(7, none);
+    }
+    if !ranges::list_valid(ranges, r) {
+        return Start::Refused(8, none);
+    }
+    if r.used / 4096 <= table as u64 {
+        let mut place = none;
+        place.level = 4;
+        return Start::Refused(9, place);
+    }
+    Start::Root(table)
+}
+
+// Both passes, over the output that holds the image and then zeros.
+fn passes(
+    out: &mut [u8],
+    scratch: &mut [u64],
+    ranges: &[u64],
+    r: Region,
+    offset: u64,
+    root: usize,
+) -> Ended
+    requires { ⌜ ((j : I.Job) × Ready j r offset (now ranges) root (now out) (now scratch)) ⌝ }
+    ensures { λ e. ⌜ ((j : I.Job) → Ready j r offset (now (ranges .entry)) root (now (out .entry)) (now (scratch .entry)) → Passes j (wordsOf (now (out .exit))) e) ⌝ }
+{
+    let new = region::moved_by(r, offset);
+    let job = Job {
+        old: r,
+        new: new,
+        offset: offset,
+    };
+    let walked = pass1::first_pass(out, scratch, ranges, job, root);
+    if walked.number != 0 {
+        let place = walked.place;
+        return Ended::Stopped(walked.number, place);
+    }
+    let store = walked.store;
+    let reached = walked.reached;
+    let filled = pass2::second_pass(out, new, root, scratch, store);
+    match filled {
+        Outcome::Stop(number, address, level) => {
+            let place = Place {
+                address: address,
+                level: level,
+                offset: 0,
+            };
+            Ended::Stopped(number, place)
+        }
+        Outcome::Go(f) => {
+            let place = nowhere();
+            let report = Report {
+                number: 0,
+                used: 4096 * f.next,
+                moved: (store.front + store.back) as u64,
+                merged: f.merged,
+                reached: reached.count(),
+                place: place,
+            };
+            Ended::Accepted(report)
+        }
+    }
+}
+
+// A refusal: both buffers are zeroed.
+fn refuse(out: &mut [u8], scratch: &mut [u64], number: u64, place: Place) -> Report
+    ensures { λ p. ⌜ Refuses number place p (now (out .entry)) (now (scratch .entry)) (now (out .exit)) (now (scratch .exit)) ⌝ }
+{
+    clear_from(out, 0);
+    moved::clear(scratch);
+    Report {
+        number: number,
+        used: 0,
+        moved: 0,
+        merged: 0,
+        reached: 0,
+        place: place,
+    }
+}
+
+// Builds the relocated tables of the image into the output.
+pub fn build(
+    image: &[u8],
+    out: &mut [u8],
+    scratch: &mut [u64],
+    ranges: &[u64],
+    r: Region,
+    cpu: CpuPagingState,
+    table_offset: u64,
+) -> Report
+    ensures { λ p. ⌜ Builds (jobOf (regionOf r) (cpu .cr3) (cpu .cr4) «table_offset» (now (ranges .entry)) (now (image .entry)) (length (now (out .entry))) (length (now (scratch .entry)))) (length (now (scratch .entry))) p (now (out .exit)) (now (scratch .exit)) ⌝ }
+{
+    let start = check_inputs(image, out.len(), ranges, r, cpu, table_offset);
+    match start {
+        Start::Refused(number, place) => refuse(out, scratch, number, place),
+        Start::Root(root) => {
+            copy_image(out, image);
+            clear_from(out, image.len());
+            let ended = passes(out, scratch, ranges, r, table_offset, root);
+            match ended {
+                Ended::Stopped(number, place) => refuse(out, scratch, number, place),
+                Ended::Accepted(report) => {
+                    moved::clear(scratch);
+                    report
+                }
+            }
+        }
+    }
+}
