@@ -11,18 +11,21 @@ out=$PWD/../target/oracle
 for profile in release checked; do
   "$CARGO" build --quiet --offline --profile $profile $X86 --target-dir "$out" -p compare --bin compare
 done
-run() { ${RUN_X86:-} "$out/$X86_TARGET/$1/compare" "$count" "$seed" ${OUTSIDE:+outside} >"$out/compare-$1.txt"; }
+said=$(mktemp -d)
+trap 'rm -rf "$said"' EXIT
+# OUTSIDE=1 also lists how the two differ outside the shared domain.
+run() { ${RUN_X86:-} "$out/$X86_TARGET/$1/compare" "$count" "$seed" ${OUTSIDE:+outside} >"$said/$1"; }
 run release &
 first=$!
 failed=0
 run checked || failed=1
 wait $first || failed=1
-cat "$out/compare-release.txt" "$out/compare-checked.txt"
+cat "$said/release" "$said/checked"
 if [ $failed != 0 ]; then
   echo "compare: FAILED (seed $seed)"
   exit 1
 fi
-same=$(tail -qn1 "$out/compare-release.txt" "$out/compare-checked.txt" | sed 's/^[a-z ]*: //' | sort -u)
+same=$(tail -qn1 "$said/release" "$said/checked" | sed 's/^[a-z ]*: //' | sort -u)
 if [ "$(echo "$same" | wc -l)" != 1 ]; then
   echo "compare: FAILED: the two builds counted differently (seed $seed)"
   exit 1

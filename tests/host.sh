@@ -27,6 +27,9 @@ has_std() { ls "$("$1" --print sysroot 2>/dev/null)/lib/rustlib/$X86_TARGET/lib/
 
 host_tools() {
   export CARGO_NET_OFFLINE=true
+  # The build scripts run elsewhere.
+  [ -z "${ARCHWEND_SHARED:-}" ] || export ARCHWEND_SHARED=$(realpath "$ARCHWEND_SHARED")
+  [ -z "${ARCHWEND_LIB_DIR:-}" ] || export ARCHWEND_LIB_DIR=$(realpath "$ARCHWEND_LIB_DIR")
   X86="--target $X86_TARGET"
   if [ "$(uname -m)" = x86_64 ]; then
     command -v cc >/dev/null || need gcc libc6-dev || return 1

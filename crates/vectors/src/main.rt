@@ -1,0 +1,354 @@
+// Replays the Rust's recorded answers (data/vectors, made as data/README says) through the proved operations. A line is up to four
+// words in hexadecimal: what it is, and its numbers.
+use build::CpuPagingState;
+use entry::PageTableEntry;
+use entry::PageTableEntryType;
+use libc::STDOUT_FILENO;
+use region::Region;
+
+const IMAGE: usize = 0x8000;
+
+const OUTPUT: usize = 0x20000;
+
+// Where the registers are: 0 to 3 the line's words, 4 the word being read.
+const AT: usize = 4;
+
+const GPA: usize = 5;
+
+const SIZE: usize = 6;
+
+const USED: usize = 7;
+
+const CR3: usize = 8;
+
+const CR4: usize = 9;
+
+const TABLE_OFFSET: usize = 10;
+
+const RANGE_WORDS: usize = 11;
+
+const ANSWERS: usize = 12;
+
+const DIFFERENT: usize = 13;
+
+const PLACE: usize = 14;
+
+const LEVEL: usize = 15;
+
+const OFFSET: usize = 16;
+
+fn wide(x: u8) -> u64 {
+    x as u64
+}
+
+// The word k, or 0 past the end.
+fn word_at(bytes: &[u8], k: usize) -> u64 {
+    if k < bytes.len() / 8 {
+        return words::read_word(bytes, k);
+    }
+    0
+}
+
+fn put(bytes: &mut [u8], k: usize, word: u64) {
+    if k < bytes.len() / 8 {
+        words::write_word(bytes, k, word);
+    }
+}
+
+// Whether every byte is 0.
+fn blank(bytes: &[u8]) -> bool {
+    let mut i: usize = 0;
+    while i < bytes.len() {
+        if bytes[i] != 0 {
+            return false;
+        }
+        i += 1;
+    }
+    true
+}
+
+// Counts one answer more, and whether it differs.
+fn count(same: bool, v: &mut [u64; 20]) {
+    v[ANSWERS] = std::num::wrapping_add_u64(v[ANSWERS], 1);
+    if !same {
+        v[DIFFERENT] = std::num::wrapping_add_u64(v[DIFFERENT], 1);
+    }
+}
+
+fn region(v: &[u64; 20]) -> Region {
+    Region {
+        gpa: v[GPA],
+        size: v[SIZE],
+        used: v[USED],
+    }
+}
+
+fn set(list: &mut [u64], i: usize, x: u64) {
+    if i < list.len() {
+        list[i] = x;
+    }
+}
+
+fn add_range(ranges: &mut [u64], v: &mut [u64; 20]) {
+    let n = v[RANGE_WORDS] as usize;
+    if n <= 60 {
+        set(ranges, n, v[1]);
+        set(ranges, n + 1, v[2]);
+        set(ranges, n + 2, v[3]);
+        v[RANGE_WORDS] = (n + 3) as u64;
+    }
+}
+
+// A load of v[2] bytes at v[1], which is to answer v[3].
+fn load(image: &mut [u8], v: &mut [u64; 20]) {
+    let page = [0x5au8; 8192];
+    let n = v[2] as usize;
+    let used = v[USED] as usize;
+    let r = region(v);
+    if n <= 8192 {
+        if used <= image.len() {
+            let answer = region::set_page_data(&mut image[0..used], r, v[1], &page[0..n]);
+            count(answer == v[3], v);
+            return;
+        }
+    }
+    count(false, v);
+}
+
+// The build, which is to answer v[1], with v[2] bytes of tables and v[3] leaves merged.
+fn run(image: &[u8], output: &mut [u8], scratch: &mut [u64], ranges: &[u64], v: &mut [u64; 20]) {
+    let used = v[USED] as usize;
+    let n = v[RANGE_WORDS] as usize;
+    let r = region(v);
+    let cpu = CpuPagingState {
+        cr3: v[CR3],
+        cr4: v[CR4],
+    };
+    if used <= image.len() {
+        if n <= ranges.len() {
+            let report = build::build(
+                &image[0..used],
+                output,
+                scratch,
+                &ranges[0..n],
+                r,
+                cpu,
+                v[TABLE_OFFSET],
+            );
+            count(report.number == v[1], v);
+            count(report.used == v[2], v);
+            count(report.merged == v[3], v);
+            let place = report.place;
+            v[PLACE] = place.address;
+            v[LEVEL] = place.level;
+            v[OFFSET] = place.offset;
+            return;
+        }
+    }
+    count(false, v);
+}
+
+fn good(answer: levels::Answer, wanted: u64) -> bool {
+    match answer {
+        levels::Answer::Good(x) => x == wanted,
+        levels::Answer::Refused(_) => false,
+    }
+}
+
+// A fresh entry of kind v[1] for the address v[2].
+fn fresh(v: &[u64; 20]) -> levels::Answer {
+    let old = PageTableEntry { entry: 0 };
+    if v[1] == 0 {
+        return old.set_entry(PageTableEntryType::Leaf4kPage(v[2]));
+    }
+    if v[1] == 1 {
+        return old.set_entry(PageTableEntryType::Leaf2MbPage(v[2]));
+    }
+    if v[1] == 2 {
+        return old.set_entry(PageTableEntryType::Leaf1GbPage(v[2]));
+    }
+    old.set_entry(PageTableEntryType::Pde(v[2]))
+}
+
+// Whether reading the address of v[1] gives v[3] where v[2] is 1, and nothing where it is 0.
+fn read_same(v: &[u64; 20]) -> bool {
+    let e = PageTableEntry { entry: v[1] };
+    let g = e.gpa();
+    match g {
+        entry::Gpa::At(a) => v[2] == 1 && a == v[3],
+        entry::Gpa::Absent => v[2] == 0,
+    }
+}
+
+// Whether the mask v[1] has the single bit v[3] at place v[2], 0 past its last.
+fn mask_same(v: &[u64; 20]) -> bool {
+    let s = masks::extract_individual_masks((v[1] % 0x1_0000_0000) as u32);
+    let bits = s.bits;
+    let i = (v[2] % 32) as usize;
+    bits[i] as u64 == v[3]
+}
+
+fn entry_line(v: &mut [u64; 20]) {
+    if v[0] == 9 {
+        let a = fresh(v);
+        count(good(a, v[3]), v);
+    } else if v[0] == 10 {
+        let e = PageTableEntry { entry: v[1] };
+        let a = e.set_addr(v[2]);
+        count(good(a, v[3]), v);
+    } else if v[0] == 11 {
+        let a = levels::get_amd64_pte_index(v[1], v[2]);
+        count(good(a, v[3]), v);
+    } else if v[0] == 12 {
+        let same = read_same(v);
+        count(same, v);
+    } else if v[0] == 13 {
+        let same = mask_same(v);
+        count(same, v);
+    } else {
+        count(false, v);
+    }
+}
+
+// The place of a 12: address, mapped size, offset.
+fn place_line(v: &mut [u64; 20]) {
+    count(v[PLACE] == v[1], v);
+    let a = levels::mapping_size(v[LEVEL]);
+    count(good(a, v[2]), v);
+    count(v[OFFSET] == v[3], v);
+}
+
+fn line(
+    image: &mut [u8],
+    output: &mut [u8],
+    scratch: &mut [u64],
+    ranges: &mut [u64],
+    v: &mut [u64; 20],
+) {
+    if v[0] == 1 {
+        words::clear(image, 0);
+        v[GPA] = v[1];
+        v[SIZE] = v[2];
+        v[USED] = v[3];
+        v[RANGE_WORDS] = 0;
+    } else if v[0] == 2 {
+        put(image, v[1] as usize, v[2]);
+    } else if v[0] == 3 {
+        add_range(ranges, v);
+    } else if v[0] == 4 {
+        v[CR3] = v[1];
+        v[CR4] = v[2];
+        v[TABLE_OFFSET] = v[3];
+    } else if v[0] == 5 {
+        run(image, output, scratch, ranges, v);
+    } else if v[0] == 6 {
+        // Each word found is taken out, so that nothing may be left at the end.
+        let k = v[1] as usize;
+        let same = word_at(output, k) == v[2];
+        count(same, v);
+        put(output, k, 0);
+    } else if v[0] == 7 {
+        let same = blank(output);
+        count(same, v);
+    } else if v[0] == 8 {
+        load(image, v);
+    } else if v[0] == 14 {
+        place_line(v);
+    } else {
+        entry_line(v);
+    }
+}
+
+fn digit(c: u8) -> u64 {
+    let x = wide(c);
+    if x < 58 {
+        return x % 16;
+    }
+    x % 16 + 9
+}
+
+fn add_digit(c: u8, v: &mut [u64; 20]) {
+    let i = (v[AT] % 4) as usize;
+    v[i] = v[i] % 0x1000_0000_0000_0000 * 16 + digit(c) % 16;
+}
+
+// One byte of the file.
+fn feed(
+    c: u8,
+    image: &mut [u8],
+    output: &mut [u8],
+    scratch: &mut [u64],
+    ranges: &mut [u64],
+    v: &mut [u64; 20],
+) {
+    if c == b' ' {
+        v[AT] = v[AT] % 4 + 1;
+    } else if c == b'\n' {
+        line(image, output, scratch, ranges, v);
+        v[0] = 0;
+        v[1] = 0;
+        v[2] = 0;
+        v[3] = 0;
+        v[AT] = 0;
+    } else {
+        add_digit(c, v);
+    }
+}
+
+fn feed_all(
+    text: &[u8],
+    image: &mut [u8],
+    output: &mut [u8],
+    scratch: &mut [u64],
+    ranges: &mut [u64],
+    v: &mut [u64; 20],
+) {
+    let mut i: usize = 0;
+    while i < text.len() {
+        feed(text[i], image, output, scratch, ranges, v);
+        i += 1;
+    }
+}
+
+// Reads some of the file and feeds it; whether there may be more.
+fn some(
+    fd: i32,
+    image: &mut [u8],
+    output: &mut [u8],
+    scratch: &mut [u64],
+    ranges: &mut [u64],
+    v: &mut [u64; 20],
+) -> bool {
+    let mut text = io::buffer();
+    let n = io::read_full(fd, &mut text);
+    feed_all(&text[..n], image, output, scratch, ranges, v);
+    n == 4096
+}
+
+// No file is longer than these turns.
+fn all(fd: i32, v: &mut [u64; 20]) {
+    let mut image = [0u8; IMAGE];
+    let mut output = [0xa5u8; OUTPUT];
+    let mut scratch = [7u64; 3000];
+    let mut ranges = [0u64; 63];
+    let mut turns: u64 = 1000;
+    while turns > 0 && some(fd, &mut image, &mut output, &mut scratch, &mut ranges, v) {
+        turns -= 1;
+    }
+}
+
+fn main() {
+    let mut v = [0u64; 20];
+    let fd = os::open_read(b"vectors");
+    if fd < 0 {
+        os::fail(b"vectors");
+        return;
+    }
+    all(fd, &mut v);
+    libc::close(fd);
+    io::write_all(STDOUT_FILENO, b"answers ");
+    io::print_decimal(STDOUT_FILENO, v[ANSWERS]);
+    io::write_all(STDOUT_FILENO, b" different ");
+    io::print_decimal(STDOUT_FILENO, v[DIFFERENT]);
+    io::write_all(STDOUT_FILENO, b"\n");
+}

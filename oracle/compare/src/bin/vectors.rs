@@ -1,0 +1,119 @@
+//! vectors SEED: prints some hundred of the original's answers, in the form that crates/vectors replays: small jobs of the shared
+//! domain, so many for each answer, then entry operations, indices and masks. Lines are words in hexadecimal.
+
+use compare::{difference, in_shared_domain, ours};
+use jobs::random::{job, Random};
+use jobs::{document, run, words, Answer, Built, Job};
+use original::page_table::{PageTable, PageTableEntry, PageTableEntryType as Kind};
+use zerocopy::{FromBytes, IntoBytes, Unalign};
+
+/// The number, whether leaves were merged, and how many jobs are wanted.
+const WANTED: [(u64, bool, usize); 5] = [(0, false, 60), (0, true, 30), (6, false, 10), (12, false, 25), (19, false, 25)];
+
+fn small(job: &Job, image: &[u64]) -> bool {
+    job.used <= 0x8000
+        && job.size <= 0x20000
+        && job.ranges.len() <= 20
+        && image.iter().filter(|w| **w != 0).count() <= 24
+        && job.loads.iter().all(|l| l.data.len() <= 8192)
+}
+
+fn print_words(kind: u64, list: &[u64]) {
+    for (k, w) in list.iter().enumerate().filter(|(_, w)| **w != 0) {
+        println!("{kind:x} {k:x} {w:x}");
+    }
+}
+
+fn print_job(job: &Job, image: &[u64], theirs: &Answer) {
+    println!("1 {:x} {:x} {:x}", job.gpa, job.size, job.used);
+    // The pages are given as words; the loads that changed nothing as loads.
+    for (l, n) in job.loads.iter().zip(&theirs.loads) {
+        if l.data.is_empty() || *n != Ok(0) {
+            println!("8 {:x} {:x} {:x}", l.gpa, l.data.len(), n.as_ref().expect("no panic"));
+        }
+    }
+    print_words(2, image);
+    for r in &job.ranges {
+        println!("3 {:x} {:x} {:x}", r.0, r.1, r.2);
+    }
+    println!("4 {:x} {:x} {:x}", job.cr3, job.cr4, job.table_offset);
+    match &theirs.built {
+        Built::Tables { bytes, merged } => {
+            println!("5 0 {:x} {merged:x}", bytes.len());
+            print_words(6, &words(bytes));
+        }
+        Built::Refused(n, place) => {
+            println!("5 {n:x} 0 0");
+            if let Some((va, size, offset)) = place {
+                println!("e {va:x} {size:x} {offset:x}");
+            }
+        }
+        Built::Panic(_) => unreachable!(),
+    }
+    println!("7");
+}
+
+fn entry(word: u64) -> PageTableEntry {
+    let mut list = [0; 512];
+    list[0] = word;
+    let bytes = jobs::bytes(&list);
+    <[Unalign<PageTable>]>::ref_from_bytes(&bytes).expect("one table")[0].into_inner()[0]
+}
+
+fn value(e: &PageTableEntry) -> u64 {
+    words(e.as_bytes())[0]
+}
+
+fn print_entries(r: &mut Random) {
+    for i in 0..40 {
+        let level = i % 4;
+        let unit = if level == 3 { 4096 } else { document::span(level) };
+        let a = (r.word() & document::FIELD) / unit * unit;
+        let mut e = entry(r.word());
+        e.set_entry([Kind::Leaf4kPage(a), Kind::Leaf2MbPage(a), Kind::Leaf1GbPage(a), Kind::Pde(a)][level]);
+        println!("9 {level:x} {a:x} {:x}", value(&e));
+        let (old, a) = (r.word(), r.word() & document::FIELD);
+        let mut e = entry(old);
+        println!("c {old:x} {:x} {:x}", e.gpa().is_some() as u64, e.gpa().unwrap_or(0));
+        e.set_addr(a);
+        println!("a {old:x} {a:x} {:x}", value(&e));
+        let a = r.word();
+        let mut t = <[Unalign<PageTable>]>::ref_from_bytes(&[0; 4096]).expect("one table")[0].into_inner();
+        let first = &t[0] as *const PageTableEntry as usize;
+        let at = (t.entry(a, level as u8) as *const PageTableEntry as usize - first) / 8;
+        println!("b {a:x} {level:x} {at:x}");
+    }
+    for mask in [0, 1, 0x8000_0000, 0x8000_0001, 0x0001_1000] {
+        let bits = original::extract_individual_masks(mask);
+        for i in 0..=bits.len() {
+            println!("d {mask:x} {i:x} {:x}", bits.get(i).unwrap_or(&0));
+        }
+    }
+}
+
+fn main() {
+    let seed: u64 = std::env::args().nth(1).and_then(|s| s.parse().ok()).unwrap_or(1);
+    jobs::quiet();
+    let mut left = WANTED;
+    let r = &mut Random(seed);
+    while left.iter().any(|w| w.2 > 0) {
+        let j = job(r, false);
+        let mine = ours(&j, 1000);
+        let image = words(&mine.image);
+        if !small(&j, &image) || !in_shared_domain(&j, &mine) {
+            continue;
+        }
+        let theirs = run(&j);
+        assert_eq!(difference(&mine, &theirs), None, "compare.sh finds it too");
+        let (merged, moved) = mine.built.as_ref().map_or((0, 0), |b| (b.0.merged, b.0.moved));
+        // Accepted builds that move nothing say little.
+        if mine.number() == 0 && moved == 0 {
+            continue;
+        }
+        if let Some(w) = left.iter_mut().find(|w| w.0 == mine.number() && w.1 == (merged > 0) && w.2 > 0) {
+            w.2 -= 1;
+            print_job(&j, &image, &theirs);
+        }
+    }
+    print_entries(r);
+}
