@@ -40,7 +40,7 @@ use Rattle.pass2.specs.declared.Outcome.{Outcome}
 use Rattle.pass2.specs.declared.Outcome.the-variants.{Go, Stop}
 use Rattle.build.specs.declared.Report.{Report}
 use Rattle.build.specs.declared.Ended.the-variants.{Accepted}
-use Rattle.build.specs.Meaning.{Ready, Passes, Refuses, Builds}
+use Rattle.build.specs.Meaning.{reportOf, counted, Ready, Passes, Refuses, Builds}
 use Rattle.build.proofs.Buffers.{zeros, image-then-zeros, cleared-length}
 
 -- what the code calls the passes with
@@ -171,15 +171,13 @@ module _ (j : I.Job) (r : Region) (o : ℕ) (ws : List ℕ) (t : ℕ) (out xs : 
             let s : new .size ≡ r .size = ap (λ (z : I.Region). z .size) moves in
             omega (arith, k .0, aligned .most)
 
-        pub ends-go : (g : Fill) → f ≡ Go g → (p : Place) → placeOf p ≡ I.nowhere → (c : ℕ) → c ≡ count 512 0 (setOf (w .reached))
-            → Passes j (wordsOf zs) (Accepted (record { number = 0; used = 4096 * g .next; moved = w .store .front + w .store .back; merged = g .merged; reached = c; place = p }))
+        pub ends-go : (g : Fill) → f ≡ Go g → (p : Report) → reportOf p ≡ counted (w .reached) (w .store) g → Passes j (wordsOf zs) (Accepted p)
         unfolding accepted
-        ends-go g q p ep c ec =
+        ends-go g q p ep =
             let e : build j ≡ accepted (view m ys w) (fill (wordsOf zs) g) = build-accepted j (ready .good) (view m ys w) goes (fill (wordsOf zs) g) (sym second-is ∙ ap (S.outcome (wordsOf zs)) q) in
-            let told : I.Report = record { number = 0; used = 4096 * g .next; moved = w .store .front + w .store .back; merged = g .merged; reached = c; place = placeOf p } in
-            let same′ : told ≡ accepted (view m ys w) (fill (wordsOf zs) g) .report
-            = λ i. record { number = 0; used = 4096 * g .next; moved = sym (leaves-length ys (w .store)) i; merged = g .merged; reached = ec i; place = ep i } in
-            (same′ ∙ sym (ap (λ (b : I.Built). b .report) e), sym (ap (λ (b : I.Built). b .output) e))
+            let same′ : counted (w .reached) (w .store) g ≡ accepted (view m ys w) (fill (wordsOf zs) g) .report
+            = λ i. record { number = 0; used = 4096 * g .next; moved = sym (leaves-length ys (w .store)) i; merged = g .merged; reached = count 512 0 (setOf (w .reached)); place = I.nowhere } in
+            (ep ∙ same′ ∙ sym (ap (λ (b : I.Built). b .report) e), sym (ap (λ (b : I.Built). b .output) e))
 
 -- ---- the call of build
 
