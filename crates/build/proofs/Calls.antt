@@ -6,8 +6,9 @@ use mathlib.Core.List.{List, [], _++_, List·Memᴰ}
 use Prim.Native.Nat.{ℕ, _+_, _-_, _*_, _/_, _%_, _^_, _≤_, _<_}
 use native.Mathlib.Nat.{zero-add}
 use native.Mathlib.Omega.{arith}
-use lib.ListN.{length, take, drop, replicate}
-use Rattle.definitions.specs.Words.{Mem, wordsOf, bytesOf, noTables, mark, count}
+use lib.ListN.{length, replicate}
+use lib.Seq.{paste}
+use Rattle.definitions.specs.Words.{Mem, clearedFrom, wordsOf, bytesOf, noTables, mark, count}
 use Rattle.definitions.specs.Inputs as I
 use Rattle.definitions.specs.Ranges.{regionOk, usedTables, shifted, movedRegion, offsetOk, listOk, rangesOf, rangesOk, deciding}
 use Rattle.definitions.specs.Step.{go}
@@ -41,7 +42,7 @@ use Rattle.pass2.specs.declared.Outcome.the-variants.{Go, Stop}
 use Rattle.build.specs.declared.Report.{Report}
 use Rattle.build.specs.declared.Ended.the-variants.{Accepted}
 use Rattle.build.specs.Meaning.{reportOf, counted, Ready, Passes, Refuses, Builds}
-use Rattle.build.proofs.Buffers.{zeros, image-then-zeros, cleared-length}
+use Rattle.build.proofs.Buffers.{image-then-zeros, cleared-length}
 
 -- what the code calls the passes with
 abbrev pub jobWith : Region → Region → ℕ → Job
@@ -191,11 +192,11 @@ module _ (r : Region) (cr3 cr4 o : ℕ) (ws image out xs : List ℕ) (good : Goo
   fits = image-fits _ good
 
   pub begun : (t : ℕ) → t ≡ root (jobOf (regionOf r) cr3 cr4 o ws image (length out) (length xs))
-      → (mid bytes : List ℕ) → mid ≡ image ++ drop (length image) out → bytes ≡ take (length image) mid ++ zeros mid (length image)
+      → (mid bytes : List ℕ) → mid ≡ paste out 0 image (length image) → bytes ≡ clearedFrom (length image) mid
       → Ready (jobOf (regionOf r) cr3 cr4 o ws image (length out) (length xs)) r o ws t bytes xs
   unfolding jobOf
   begun t h mid bytes e f =
-      let held : bytes ≡ image ++ replicate (length out - length image) 0 = f ∙ image-then-zeros out image fits mid e in
+      let held : bytes ≡ image ++ replicate (length out - length image) 0 = image-then-zeros out image mid bytes fits e f in
       record {
         good = good;
         region = refl;

@@ -18,7 +18,7 @@ use Rattle.demands.proofs.Main.{rebuilt}
 use Rattle.demands.proofs.Exact.{exact}
 use Rattle.demands.proofs.Bytes.{after-in}
 use Rattle.build.specs.declared.Report.{Report}
-use Rattle.build.specs.Meaning.{reportOf, Builds}
+use Rattle.build.specs.Meaning.{Builds}
 
 -- the numbers and buffers that a call is given
 pub record Call : Type 0 where

@@ -8,9 +8,8 @@ use reached::Reached;
 use region::Region;
 use region::TableIndex;
 ghost use mathlib.Core.Path.{_≡_};
-ghost use mathlib.Core.List.{_++_};
-ghost use Prim.Native.Nat.{ℕ, _+_, _-_, _*_, _^_, _<_, _≤_};
-ghost use lib.ListN.{length, take, drop, replicate};
+ghost use Prim.Native.Nat.{ℕ, _+_, _-_, _*_, _^_, _<_};
+ghost use lib.ListN.{length};
 ghost use Rattle.definitions.specs.Inputs as I;
 ghost use Rattle.definitions.specs.Words.{wordsOf};
 ghost use Rattle.definitions.specs.Build.{jobOf};
@@ -41,30 +40,6 @@ pub enum Start {
 pub enum Ended {
     Accepted(Report),
     Stopped(u64, Place),
-}
-
-// Zeroes the bytes from `from` on.
-fn clear_from(out: &mut [u8], from: usize)
-    requires { ⌜ from ≤ length (now out) ⌝ }
-    ensures { λ _. ⌜ now (out .exit) ≡ take from (now (out .entry)) ++ replicate (length (now (out .entry)) - from) 0 ⌝ }
-{
-    let mut i = from;
-    while i < out.len() {
-        out[i] = 0;
-        i += 1;
-    }
-}
-
-// Copies the image to the front of the output.
-fn copy_image(out: &mut [u8], image: &[u8])
-    requires { ⌜ length (now image) ≤ length (now out) ⌝ }
-    ensures { λ _. ⌜ now (out .exit) ≡ now (image .entry) ++ drop (length (now (image .entry))) (now (out .entry)) ⌝ }
-{
-    let mut i: usize = 0;
-    while i < image.len() {
-        out[i] = image[i];
-        i += 1;
-    }
 }
 
 // The checks before pass 1, in order.
@@ -168,7 +143,7 @@ fn passes(
 fn refuse(out: &mut [u8], scratch: &mut [u64], number: u64, place: Place) -> Report
     ensures { λ p. ⌜ Refuses number place p (now (out .entry)) (now (scratch .entry)) (now (out .exit)) (now (scratch .exit)) ⌝ }
 {
-    clear_from(out, 0);
+    words::clear(out, 0);
     moved::clear(scratch);
     Report {
         number: number,
@@ -196,8 +171,8 @@ pub fn build(
     match start {
         Start::Refused(number, place) => refuse(out, scratch, number, place),
         Start::Root(root) => {
-            copy_image(out, image);
-            clear_from(out, image.len());
+            words::copy(out, 0, image);
+            words::clear(out, image.len());
             let ended = passes(out, scratch, ranges, r, table_offset, root);
             match ended {
                 Ended::Stopped(number, place) => refuse(out, scratch, number, place),
