@@ -1,0 +1,23 @@
+-- What the exported functions promise, in the definitions' terms.
+-- Assumes nothing.
+use mathlib.Core.Path.{_≡_}
+use mathlib.Core.List.{List, [], _∷_}
+use Prim.Native.Nat.{ℕ}
+use lib.ListN.{replicate}
+use Rattle.definitions.specs.Inputs.{Region, Job, Report}
+use Rattle.definitions.specs.Build.{build, outputBytes}
+
+abbrev pub regionAt : ℕ → ℕ → ℕ → Region
+regionAt gpa size used = record { gpa = gpa; size = size; used = used }
+
+-- the report's eight words, in the order of the header
+abbrev pub reportWords : Report → List ℕ
+reportWords r =
+    r .number ∷ r .used ∷ r .moved ∷ r .merged ∷ r .reached
+    ∷ r .place .address ∷ r .place .level ∷ r .place .offset ∷ []
+
+-- the report, every byte of the output and every word of the scratch, for a job
+pub record Answers (j : Job) (report output scratch : List ℕ) : Type 0 where
+  pub reported : report ≡ reportWords (build j .report)
+  pub built : output ≡ outputBytes j
+  pub cleared : scratch ≡ replicate (j .scratchLength) 0
