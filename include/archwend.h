@@ -1,0 +1,86 @@
+/* Archwend: moves the page tables of a guest whose memory was moved. Link libarchwend.a (x86-64).
+ *
+ * No pointer may be null, also where its length is 0. Words are aligned to 8 bytes. The memory that a call writes shares no byte
+ * with any other memory lent to it. Nothing else is required: any numbers are taken, and what can't be done is refused. */
+#ifndef ARCHWEND_H
+#define ARCHWEND_H
+
+#include <stddef.h>
+#include <stdint.h>
+
+#ifdef __cplusplus
+extern "C" {
+#endif
+
+/* Refusals; ARCHWEND_OK is an answer without one. */
+enum archwend_number {
+    ARCHWEND_OK = 0,
+    ARCHWEND_REGION = 1,            /* region not whole pages, empty, above 512 tables, past 2^48, or used above size */
+    ARCHWEND_PAGE_LENGTH = 2,       /* page data not 4096 bytes */
+    ARCHWEND_PAGE_GPA = 3,          /* page outside the region, or not a multiple of 4096 */
+    ARCHWEND_LENGTHS = 4,           /* image not `used` bytes, or output shorter than `size` */
+    ARCHWEND_FIVE_LEVELS = 5,       /* cr4 has bit 0x1000 */
+    ARCHWEND_CR3 = 6,               /* cr3 not in the region */
+    ARCHWEND_TABLE_OFFSET = 7,      /* no multiple of 4096, or the moved region leaves 0 to 2^48 */
+    ARCHWEND_RANGES = 8,            /* too many, not ascending, past 2^48, over the region, or not in threes */
+    ARCHWEND_FREE_TAIL = 9,         /* a table, or the page of a load, in the free tail of the region */
+    ARCHWEND_SHARED_TABLE = 10,     /* a table reached twice */
+    ARCHWEND_INTO_MOVED = 11,       /* a pointer into the moved region from outside the old one */
+    ARCHWEND_UNALIGNED_OFFSET = 12, /* an offset no multiple of the size that the entry maps */
+    ARCHWEND_OUT_OF_BOUNDS = 13,    /* a leaf would leave 0 to 2^48 */
+    ARCHWEND_SAME_ADDRESS = 14,     /* two leaves would move to one address */
+    ARCHWEND_SCRATCH_FULL = 15,     /* no room for another moved leaf */
+    ARCHWEND_LARGE_IN_THE_WAY = 16, /* a large leaf above a moved leaf's new place */
+    ARCHWEND_WAY_OUTSIDE = 17,      /* the way to a moved leaf leaves the moved region */
+    ARCHWEND_OCCUPIED = 18,         /* another entry at a moved leaf's new place */
+    ARCHWEND_NO_FREE_TABLE = 19     /* the region has no free table left */
+};
+
+/* The words of a build's report. After a refusal the counts are 0; after acceptance the place is. */
+enum archwend_report {
+    ARCHWEND_NUMBER = 0,        /* ARCHWEND_OK or the refusal */
+    ARCHWEND_USED = 1,          /* bytes of tables in the output */
+    ARCHWEND_MOVED = 2,         /* leaves moved, merged ones included */
+    ARCHWEND_MERGED = 3,        /* leaves that came to stand on an identical one */
+    ARCHWEND_REACHED = 4,       /* tables reached, the root included */
+    ARCHWEND_PLACE_ADDRESS = 5, /* where it was refused: an address, */
+    ARCHWEND_PLACE_LEVEL = 6,   /* a level, */
+    ARCHWEND_PLACE_OFFSET = 7   /* and for 12 and 13 the offset */
+};
+
+/* Builds the moved tables. The report's first word is the answer. */
+void archwend_build(
+    const uint8_t *image,   /* the tables as they are: exactly `used` bytes; only read */
+    size_t image_len,       /* bytes */
+    uint8_t *output,        /* the moved tables, then zeros; all zeros after a refusal */
+    size_t output_len,      /* bytes, at least `size` */
+    uint64_t *scratch,      /* room for one moved leaf per three words; left zero */
+    size_t scratch_len,     /* words */
+    const uint64_t *ranges, /* words in threes: first, last (included), offset in two's complement; ascending */
+    size_t ranges_len,      /* words */
+    uint64_t gpa,           /* where the region starts */
+    uint64_t size,          /* its bytes, at most 2 MiB */
+    uint64_t used,          /* its bytes that hold tables */
+    uint64_t cr3,           /* the root table's address; the low 12 bits are ignored */
+    uint64_t cr4,           /* only bit 0x1000 is looked at */
+    uint64_t table_offset,  /* how far the region itself moves, in two's complement */
+    uint64_t report[8]      /* see enum archwend_report */
+);
+
+/* Loads one page into the image. Returns ARCHWEND_OK or the refusal; a refusal changes nothing. */
+uint64_t archwend_set_page_data(
+    uint8_t *image,      /* exactly `used` bytes */
+    size_t image_len,    /* bytes */
+    uint64_t gpa,        /* the region, as above */
+    uint64_t size,
+    uint64_t used,
+    uint64_t page_gpa,   /* the page's address before the move */
+    const uint8_t *data, /* the page */
+    size_t data_len      /* 4096, or 0: then nothing is changed */
+);
+
+#ifdef __cplusplus
+}
+#endif
+
+#endif

@@ -1,0 +1,344 @@
+//! Moves the page tables of a guest whose memory was moved: a safe wrapper over proved code.
+//!
+//! The names are those of igvm's `page_table` module. Every check, every refusal and every byte of the answer comes from the
+//! proved library; this crate only lends it memory. No call panics, whatever its arguments.
+//!
+//! ```
+//! use archwend::{CpuPagingState, PageTableRelocationBuilder};
+//!
+//! fn page(entries: &[(usize, u64)]) -> Vec<u8> {
+//!     let mut words = vec![0u64; 512];
+//!     for (i, e) in entries {
+//!         words[*i] = *e;
+//!     }
+//!     words.iter().flat_map(|w| w.to_le_bytes()).collect()
+//! }
+//!
+//! # fn main() -> Result<(), archwend::Error> {
+//! // Three tables at 0x100000 map the 2 MiB page at 0x200000, which the loader moved up by 2 MiB.
+//! let mut tables = PageTableRelocationBuilder::new(0x100000, 0x8000, 0x3000)?;
+//! tables.set_page_data(0x100000, &page(&[(0, 0x101023)]))?;
+//! tables.set_page_data(0x101000, &page(&[(0, 0x102023)]))?;
+//! tables.set_page_data(0x102000, &page(&[(1, 0x2000e3)]))?;
+//! let cpu = CpuPagingState { cr3: 0x100000, cr4: 0 };
+//! let rebuilt = tables.build(0, &[(0x200000..=0x3fffff, 0x200000)], cpu)?;
+//! assert_eq!(rebuilt.len(), 0x3000);
+//! assert_eq!(rebuilt[0x2000..], page(&[(2, 0x4000e3)]));
+//! # Ok(())
+//! # }
+//! ```
+
+#![deny(missing_docs)]
+
+use std::fmt;
+use std::ops::RangeInclusive;
+
+/// Number of bytes in a page.
+pub const X64_PAGE_SIZE: u64 = 4096;
+
+/// The largest region: 512 tables.
+pub const MAX_REGION: u64 = 512 * X64_PAGE_SIZE;
+
+mod ffi {
+    extern "C" {
+        pub fn archwend_build(
+            image: *const u8,
+            image_len: usize,
+            output: *mut u8,
+            output_len: usize,
+            scratch: *mut u64,
+            scratch_len: usize,
+            ranges: *const u64,
+            ranges_len: usize,
+            gpa: u64,
+            size: u64,
+            used: u64,
+            cr3: u64,
+            cr4: u64,
+            table_offset: u64,
+            report: *mut [u64; 8],
+        );
+        pub fn archwend_set_page_data(
+            image: *mut u8,
+            image_len: usize,
+            gpa: u64,
+            size: u64,
+            used: u64,
+            page_gpa: u64,
+            data: *const u8,
+            data_len: usize,
+        ) -> u64;
+    }
+}
+
+/// Cpu state related to paging.
+#[derive(Debug, Clone, Copy, PartialEq, Eq)]
+pub struct CpuPagingState {
+    /// The root table's address; the low 12 bits are ignored.
+    pub cr3: u64,
+    /// Five-level paging (bit 0x1000) is refused.
+    pub cr4: u64,
+}
+
+/// The memory that holds the tables: whole pages, at most 512, below 2^48.
+#[derive(Debug, Clone, Copy, PartialEq, Eq)]
+pub struct Region {
+    /// Where it starts.
+    pub gpa: u64,
+    /// Its bytes.
+    pub size: u64,
+    /// The bytes at its start that hold tables; the rest is free for new ones.
+    pub used: u64,
+}
+
+/// Where a build was refused. What a refusal does not name is 0.
+#[derive(Debug, Clone, Copy, PartialEq, Eq, Default)]
+pub struct Place {
+    /// The first address that the entry maps; for 16 to 19 the moved leaf's new address.
+    pub address: u64,
+    /// The entry's level, 3 being the root's; 4 for the root itself.
+    pub level: u64,
+    /// The offset that was asked for, in 12 and 13.
+    pub offset: i64,
+}
+
+/// What an accepted build did.
+#[derive(Debug, Clone, Copy, PartialEq, Eq)]
+pub struct Report {
+    /// The bytes of tables in the output.
+    pub used: u64,
+    /// Leaves that moved, the merged ones included.
+    pub moved: u64,
+    /// Leaves that came to stand on an identical one.
+    pub merged: u64,
+    /// Tables that the walk reached, the root included.
+    pub reached: u64,
+}
+
+/// A refusal.
+#[derive(Debug, Clone, Copy, PartialEq, Eq)]
+pub struct Error {
+    /// Which: 1 to 19, or [`Error::NO_MEMORY`].
+    pub number: u64,
+    /// Where.
+    pub place: Place,
+}
+
+impl Error {
+    /// The number where memory for the answer can't be had. [`build_in`] and [`set_page_data_in`] never give it.
+    pub const NO_MEMORY: u64 = u64::MAX;
+
+    fn plain(number: u64) -> Self {
+        Error { number, place: Place::default() }
+    }
+
+    /// The refusal in words.
+    pub fn sentence(&self) -> &'static str {
+        match self.number {
+            1 => "the region is not whole pages, is empty, larger than 512 tables or past 2^48, or uses more than its size",
+            2 => "page data length is not 4096",
+            3 => "page data gpa is outside the region or not a multiple of 4096",
+            4 => "the image is not as long as the region's used part, or the output is shorter than the region",
+            5 => "five-level paging is not taken",
+            6 => "cr3 is not within the region",
+            7 => "the table offset is not a multiple of 4096, or moves the region out of 0 to 2^48",
+            8 => "the ranges are too many, not ascending, empty, past 2^48, over the region, or no words in threes",
+            9 => "a table lies in the free tail of the region",
+            10 => "a table is reached twice",
+            11 => "an entry points into the moved region from outside the old one",
+            12 => "an offset is not a multiple of the size that the entry maps",
+            13 => "an entry would move out of 0 to 2^48",
+            14 => "two entries would move to one address",
+            15 => "the scratch holds no more moved entries",
+            16 => "a large page stands in the way of a moved entry",
+            17 => "the way to a moved entry leaves the moved region",
+            18 => "another entry stands where one would move to",
+            19 => "the region has no free table left",
+            Self::NO_MEMORY => "memory for the answer can't be had",
+            _ => "refused",
+        }
+    }
+}
+
+impl fmt::Display for Error {
+    fn fmt(&self, f: &mut fmt::Formatter<'_>) -> fmt::Result {
+        write!(f, "{} (refusal {}", self.sentence(), self.number)?;
+        let p = self.place;
+        if p != Place::default() || (9..=19).contains(&self.number) {
+            write!(f, " at {:#x}, level {}", p.address, p.level)?;
+        }
+        if p.offset != 0 {
+            write!(f, ", offset {}", p.offset)?;
+        }
+        write!(f, ")")
+    }
+}
+
+impl std::error::Error for Error {}
+
+/// Builds the moved tables in lent memory; allocates nothing.
+///
+/// The image is exactly `region.used` bytes, the output at least `region.size`. The ranges are words in threes: first, last
+/// (included) and offset in two's complement, ascending. The scratch holds one moved leaf per three words. After acceptance the
+/// output has the tables and then zeros; after a refusal it is zero. The scratch is left zero.
+///
+/// ```
+/// use archwend::{build_in, set_page_data_in, CpuPagingState, Region};
+///
+/// let region = Region { gpa: 0x100000, size: 0x2000, used: 0x1000 };
+/// let (mut image, mut output, mut scratch) = ([0u8; 0x1000], [0u8; 0x2000], [0u64; 3]);
+/// set_page_data_in(&mut image, region, 0x100000, &[0; 4096]).unwrap();
+/// let cpu = CpuPagingState { cr3: 0x100000, cr4: 0 };
+/// let report = build_in(&image, &mut output, &mut scratch, &[], region, 0, cpu).unwrap();
+/// assert_eq!((report.used, report.reached), (0x1000, 1));
+/// let refused = build_in(&image, &mut output[..5], &mut scratch, &[], region, 0, cpu).unwrap_err();
+/// assert_eq!(refused.number, 4);
+/// ```
+pub fn build_in(
+    image: &[u8],
+    output: &mut [u8],
+    scratch: &mut [u64],
+    ranges: &[u64],
+    region: Region,
+    table_reloc_offset: i64,
+    paging_state: CpuPagingState,
+) -> Result<Report, Error> {
+    let mut report = [0u64; 8];
+    // Safety: pointers and lengths are those of live slices, and the borrows keep the written ones apart from the others. The
+    // proved code reads and writes inside them only, and requires nothing of the numbers.
+    unsafe {
+        ffi::archwend_build(
+            image.as_ptr(),
+            image.len(),
+            output.as_mut_ptr(),
+            output.len(),
+            scratch.as_mut_ptr(),
+            scratch.len(),
+            ranges.as_ptr(),
+            ranges.len(),
+            region.gpa,
+            region.size,
+            region.used,
+            paging_state.cr3,
+            paging_state.cr4,
+            table_reloc_offset as u64,
+            &mut report,
+        );
+    }
+    let [number, used, moved, merged, reached, address, level, offset] = report;
+    if number == 0 {
+        Ok(Report { used, moved, merged, reached })
+    } else {
+        Err(Error { number, place: Place { address, level, offset: offset as i64 } })
+    }
+}
+
+/// Loads one page of tables into a lent image of `region.used` bytes. Empty data changes nothing; a refusal neither.
+pub fn set_page_data_in(image: &mut [u8], region: Region, gpa: u64, data: &[u8]) -> Result<(), Error> {
+    // Safety: as in build_in.
+    let number = unsafe {
+        ffi::archwend_set_page_data(
+            image.as_mut_ptr(),
+            image.len(),
+            region.gpa,
+            region.size,
+            region.used,
+            gpa,
+            data.as_ptr(),
+            data.len(),
+        )
+    };
+    match number {
+        0 => Ok(()),
+        n => Err(Error::plain(n)),
+    }
+}
+
+/// So many zeros, or the refusal where there is no memory.
+fn zeros<T: Clone + Default>(n: usize) -> Result<Vec<T>, Error> {
+    let mut v = Vec::new();
+    v.try_reserve_exact(n).map_err(|_| Error::plain(Error::NO_MEMORY))?;
+    v.resize(n, T::default());
+    Ok(v)
+}
+
+/// A length that a good region can have; any other is refused by the proved code before it looks at the buffer.
+fn bounded(n: u64) -> usize {
+    if n <= MAX_REGION {
+        n as usize
+    } else {
+        0
+    }
+}
+
+/// A builder that rebuilds the page tables of one region.
+#[derive(Debug, Clone)]
+pub struct PageTableRelocationBuilder {
+    /// Base gpa for the page table region.
+    pub gpa: u64,
+    /// Size in bytes of the page table region.
+    pub size: u64,
+    /// Used bytes in this page table region.
+    pub used_size: u64,
+    page_data: Vec<u8>,
+}
+
+impl PageTableRelocationBuilder {
+    /// A region whose used part is all zeros. Refused with 1 where the region is no good.
+    pub fn new(gpa: u64, size: u64, used_size: u64) -> Result<Self, Error> {
+        let mut b = PageTableRelocationBuilder { gpa, size, used_size, page_data: zeros(bounded(used_size))? };
+        // An empty load checks the region and changes nothing.
+        b.set_page_data(gpa, &[])?;
+        Ok(b)
+    }
+
+    fn region(&self) -> Region {
+        Region { gpa: self.gpa, size: self.size, used: self.used_size }
+    }
+
+    /// Sets one page of the tables, 4096 bytes; `gpa` is where it was before the move. Empty data changes nothing.
+    pub fn set_page_data(&mut self, gpa: u64, data: &[u8]) -> Result<(), Error> {
+        let region = self.region();
+        set_page_data_in(&mut self.page_data, region, gpa, data)
+    }
+
+    /// Whether the address is in the region.
+    pub fn contains(&self, gpa: u64) -> bool {
+        gpa >= self.gpa && gpa - self.gpa < self.size
+    }
+
+    /// The moved tables. The ranges are ascending and leave the region out; it joins by itself where `table_reloc_offset` is
+    /// not 0.
+    pub fn build(
+        self,
+        table_reloc_offset: i64,
+        relocation_offsets: &[(RangeInclusive<u64>, i64)],
+        paging_state: CpuPagingState,
+    ) -> Result<Vec<u8>, Error> {
+        self.build_and_report(table_reloc_offset, relocation_offsets, paging_state).map(|(tables, _)| tables)
+    }
+
+    /// As [`build`](Self::build), with the counts.
+    pub fn build_and_report(
+        self,
+        table_reloc_offset: i64,
+        relocation_offsets: &[(RangeInclusive<u64>, i64)],
+        paging_state: CpuPagingState,
+    ) -> Result<(Vec<u8>, Report), Error> {
+        let mut words = Vec::new();
+        let count = relocation_offsets.len().saturating_mul(3);
+        words.try_reserve_exact(count).map_err(|_| Error::plain(Error::NO_MEMORY))?;
+        for (range, offset) in relocation_offsets {
+            words.push(*range.start());
+            words.push(*range.end());
+            words.push(*offset as u64);
+        }
+        let mut output = zeros(bounded(self.size))?;
+        // Room for every entry of the image, so that 15 is never given.
+        let mut scratch = zeros(self.page_data.len() / 8 * 3)?;
+        let region = self.region();
+        let report = build_in(&self.page_data, &mut output, &mut scratch, &words, region, table_reloc_offset, paging_state)?;
+        output.truncate(report.used as usize);
+        Ok((output, report))
+    }
+}

@@ -1,0 +1,80 @@
+//! compare COUNT SEED [outside]: random jobs through both, until COUNT of them were in the shared domain.
+//! `outside` also lists how the two differ outside of it.
+
+use compare::{difference, in_shared_domain, ours};
+use jobs::random::{job, Random};
+use jobs::{print, run, show};
+use std::collections::BTreeMap;
+
+mod entries;
+
+/// How many in this many jobs have hundreds of tables.
+const LARGE_EVERY: u64 = 150;
+
+fn main() {
+    let args: Vec<String> = std::env::args().collect();
+    let number = |i: usize, default: u64| args.get(i).and_then(|s| s.parse().ok()).unwrap_or(default);
+    let (count, seed) = (number(1, 1000), number(2, 1));
+    let outside = args.iter().any(|a| a == "outside");
+    let build = if cfg!(overflow_checks_on) { "checks overflow" } else { "wraps" };
+    jobs::quiet();
+    println!("page_table.rs {} in a build that {build}; seed {seed}", original::PAGE_TABLE);
+    let mut builds: BTreeMap<u64, u64> = BTreeMap::new();
+    let mut loads: BTreeMap<u64, u64> = BTreeMap::new();
+    let mut others: BTreeMap<String, (u64, u64)> = BTreeMap::new();
+    let (mut shared, mut merged, mut moved, mut jobs_run, mut differ, mut large) = (0, 0, 0, 0, 0, 0);
+    while shared < count {
+        let own = seed.wrapping_mul(1 << 32).wrapping_add(jobs_run);
+        let r = &mut Random(own);
+        let j = job(r, jobs_run % LARGE_EVERY == LARGE_EVERY - 1);
+        jobs_run += 1;
+        // Room for every leaf, now and then for few.
+        let room = if r.percent(3) { r.below(20) as usize } else { j.used.min(1 << 21) as usize / 8 };
+        let mine = ours(&j, room);
+        if let Some(what) = mine.wrong {
+            println!("{}{what}", print(&j));
+            std::process::exit(1);
+        }
+        let theirs = run(&j);
+        let what = difference(&mine, &theirs);
+        if in_shared_domain(&j, &mine) {
+            shared += 1;
+            large += (j.used > 0x40000) as u64;
+            *builds.entry(mine.number()).or_default() += 1;
+            mine.loads.iter().for_each(|n| *loads.entry(*n).or_default() += 1);
+            if let Ok((report, _)) = &mine.built {
+                merged += report.merged;
+                moved += report.moved;
+            }
+            if let Some(what) = what {
+                differ += 1;
+                println!("DIFFERENCE in job {own}: {what}\n{}# the original:\n{}", print(&j), show(&theirs));
+            }
+        } else if outside {
+            let what = what.unwrap_or_else(|| format!("build: both {}", mine.number()));
+            let e = others.entry(what.split(", the").next().unwrap().to_string() + &short(&what)).or_insert((0, own));
+            e.0 += 1;
+        }
+    }
+    for (what, (n, own)) in &others {
+        println!("outside: {n:7} x {what} (job {own})");
+    }
+    let wrong = entries::compare(&mut Random(seed), count.max(1000));
+    let list = |m: &BTreeMap<u64, u64>| m.iter().map(|(n, c)| format!("{n}: {c}")).collect::<Vec<_>>().join(", ");
+    println!(
+        "{build}: {shared} jobs in the shared domain ({large} large) of {jobs_run}: {differ} differences; builds {}; loads {}; \
+         {moved} leaves moved, {merged} merged; {} entry operations, indices and masks: {wrong} differences",
+        list(&builds),
+        list(&loads),
+        entries::PER_ROUND * count.max(1000)
+    );
+    if differ + wrong != 0 {
+        std::process::exit(1);
+    }
+}
+
+/// What the original did, without its numbers.
+fn short(what: &str) -> String {
+    let tail = what.split_once(", the").map_or("", |t| t.1);
+    format!(", the{}", tail.chars().filter(|c| !c.is_ascii_digit()).collect::<String>())
+}
