@@ -1,7 +1,6 @@
 use Prim.Native.Nat.{_≤_, _-_}
 use borrow.Author.Needs.{needs}
 use mathlib.Core.Path.{_≡_}
-use native.Mathlib.Omega.{arith}
 use lib.ListN.{length}
 use Rattle.relocate.proofs.read_to_end.Statement.{statement}
 use Rattle.relocate.proofs.read_to_end.Tie as tie
