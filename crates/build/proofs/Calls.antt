@@ -6,8 +6,9 @@ use mathlib.Core.List.{List, [], _++_, List·Memᴰ}
 use Prim.Native.Nat.{ℕ, _+_, _-_, _*_, _/_, _%_, _^_, _≤_, _<_}
 use native.Mathlib.Nat.{zero-add}
 use native.Mathlib.Omega.{arith}
-use lib.ListN.{length, take, drop, replicate}
-use Rattle.definitions.specs.Words.{Mem, wordsOf, bytesOf, noTables, mark, count}
+use lib.ListN.{length, replicate}
+use lib.Seq.{paste}
+use Rattle.definitions.specs.Words.{Mem, clearedFrom, wordsOf, bytesOf, noTables, mark, count}
 use Rattle.definitions.specs.Inputs as I
 use Rattle.definitions.specs.Ranges.{regionOk, usedTables, shifted, movedRegion, offsetOk, listOk, rangesOf, rangesOk, deciding}
 use Rattle.definitions.specs.Step.{go}
@@ -40,8 +41,8 @@ use Rattle.pass2.specs.declared.Outcome.{Outcome}
 use Rattle.pass2.specs.declared.Outcome.the-variants.{Go, Stop}
 use Rattle.build.specs.declared.Report.{Report}
 use Rattle.build.specs.declared.Ended.the-variants.{Accepted}
-use Rattle.build.specs.Meaning.{Ready, Passes, Refuses, Builds}
-use Rattle.build.proofs.Buffers.{zeros, image-then-zeros, cleared-length}
+use Rattle.build.specs.Meaning.{reportOf, counted, Ready, Passes, Refuses, Builds}
+use Rattle.build.proofs.Buffers.{image-then-zeros, cleared-length}
 
 -- what the code calls the passes with
 abbrev pub jobWith : Region → Region → ℕ → Job
@@ -171,15 +172,13 @@ module _ (j : I.Job) (r : Region) (o : ℕ) (ws : List ℕ) (t : ℕ) (out xs : 
             let s : new .size ≡ r .size = ap (λ (z : I.Region). z .size) moves in
             omega (arith, k .0, aligned .most)
 
-        pub ends-go : (g : Fill) → f ≡ Go g → (p : Place) → placeOf p ≡ I.nowhere → (c : ℕ) → c ≡ count 512 0 (setOf (w .reached))
-            → Passes j (wordsOf zs) (Accepted (record { number = 0; used = 4096 * g .next; moved = w .store .front + w .store .back; merged = g .merged; reached = c; place = p }))
+        pub ends-go : (g : Fill) → f ≡ Go g → (p : Report) → reportOf p ≡ counted (w .reached) (w .store) g → Passes j (wordsOf zs) (Accepted p)
         unfolding accepted
-        ends-go g q p ep c ec =
+        ends-go g q p ep =
             let e : build j ≡ accepted (view m ys w) (fill (wordsOf zs) g) = build-accepted j (ready .good) (view m ys w) goes (fill (wordsOf zs) g) (sym second-is ∙ ap (S.outcome (wordsOf zs)) q) in
-            let told : I.Report = record { number = 0; used = 4096 * g .next; moved = w .store .front + w .store .back; merged = g .merged; reached = c; place = placeOf p } in
-            let same′ : told ≡ accepted (view m ys w) (fill (wordsOf zs) g) .report
-            = λ i. record { number = 0; used = 4096 * g .next; moved = sym (leaves-length ys (w .store)) i; merged = g .merged; reached = ec i; place = ep i } in
-            (same′ ∙ sym (ap (λ (b : I.Built). b .report) e), sym (ap (λ (b : I.Built). b .output) e))
+            let same′ : counted (w .reached) (w .store) g ≡ accepted (view m ys w) (fill (wordsOf zs) g) .report
+            = λ i. record { number = 0; used = 4096 * g .next; moved = sym (leaves-length ys (w .store)) i; merged = g .merged; reached = count 512 0 (setOf (w .reached)); place = I.nowhere } in
+            (ep ∙ same′ ∙ sym (ap (λ (b : I.Built). b .report) e), sym (ap (λ (b : I.Built). b .output) e))
 
 -- ---- the call of build
 
@@ -193,11 +192,11 @@ module _ (r : Region) (cr3 cr4 o : ℕ) (ws image out xs : List ℕ) (good : Goo
   fits = image-fits _ good
 
   pub begun : (t : ℕ) → t ≡ root (jobOf (regionOf r) cr3 cr4 o ws image (length out) (length xs))
-      → (mid bytes : List ℕ) → mid ≡ image ++ drop (length image) out → bytes ≡ take (length image) mid ++ zeros mid (length image)
+      → (mid bytes : List ℕ) → mid ≡ paste out 0 image (length image) → bytes ≡ clearedFrom (length image) mid
       → Ready (jobOf (regionOf r) cr3 cr4 o ws image (length out) (length xs)) r o ws t bytes xs
   unfolding jobOf
   begun t h mid bytes e f =
-      let held : bytes ≡ image ++ replicate (length out - length image) 0 = f ∙ image-then-zeros out image fits mid e in
+      let held : bytes ≡ image ++ replicate (length out - length image) 0 = image-then-zeros out image mid bytes fits e f in
       record {
         good = good;
         region = refl;

@@ -1,3 +1,4 @@
 pub mod Buffers
 pub mod Calls
 pub mod One
+pub mod Theorems

@@ -2,15 +2,19 @@
 -- Assumes nothing.
 use mathlib.Core.Path.{_≡_}
 use mathlib.Core.List.{List}
-use Prim.Native.Nat.{ℕ}
+use Prim.Native.Nat.{ℕ, _+_, _*_}
 use lib.ListN.{length, replicate}
-use Rattle.definitions.specs.Words.{Mem, wordsOf}
+use Rattle.definitions.specs.Words.{Mem, wordsOf, count}
 use Rattle.definitions.specs.Inputs as I
 use Rattle.definitions.specs.Step.{stop}
 use Rattle.definitions.specs.Build.{root, start, refused, build, outputBytes}
 use Rattle.definitions.proofs.Checks.{Good}
 use Rattle.region.specs.Meaning.{regionOf}
 use Rattle.region.specs.declared.Region.{Region}
+use Rattle.moved.specs.declared.Store.{Store}
+use Rattle.reached.specs.Held.{setOf}
+use Rattle.reached.specs.declared.Reached.{Reached}
+use Rattle.pass2.specs.declared.Fill.{Fill}
 use Rattle.pass1.specs.Walks.{placeOf}
 use Rattle.pass1.specs.declared.Place.{Place}
 use Rattle.build.specs.declared.Report.{Report}
@@ -27,6 +31,17 @@ reportOf p = record {
   merged = p .merged;
   reached = p .reached;
   place = placeOf (p .place);
+}
+
+-- the report of a build that both passes let through
+abbrev pub counted : Reached → Store → Fill → I.Report
+counted reached store f = record {
+  number = 0;
+  used = 4096 * f .next;
+  moved = store .front + store .back;
+  merged = f .merged;
+  reached = count 512 0 (setOf reached);
+  place = I.nowhere;
 }
 
 -- the checks: all passed, and t is the root's table; or the first that applies

@@ -1,19 +1,20 @@
 // The build: the checks, both passes, and the report.
+use moved::Store;
 use pass1::Job;
 use pass1::Place;
+use pass2::Fill;
 use pass2::Outcome;
+use reached::Reached;
 use region::Region;
 use region::TableIndex;
 ghost use mathlib.Core.Path.{_≡_};
-ghost use mathlib.Core.List.{_++_};
-ghost use Prim.Native.Nat.{ℕ, _-_, _≤_};
-ghost use lib.ListN.{length, take, drop, replicate};
+ghost use Prim.Native.Nat.{ℕ, _+_, _-_, _*_, _^_, _<_};
+ghost use lib.ListN.{length};
 ghost use Rattle.definitions.specs.Inputs as I;
 ghost use Rattle.definitions.specs.Words.{wordsOf};
 ghost use Rattle.definitions.specs.Build.{jobOf};
 ghost use Rattle.region.specs.Meaning.{regionOf};
-ghost use Rattle.pass1.specs.Walks.{placeOf};
-ghost use Rattle.build.specs.Meaning.{Starts, Ready, Passes, Refuses, Builds};
+ghost use Rattle.build.specs.Meaning.{reportOf, counted, Starts, Ready, Passes, Refuses, Builds};
 
 pub struct CpuPagingState {
     pub cr3: u64,
@@ -41,40 +42,6 @@ pub enum Ended {
     Stopped(u64, Place),
 }
 
-fn nowhere() -> Place
-    ensures { λ p. ⌜ placeOf p ≡ I.nowhere ⌝ }
-{
-    Place {
-        address: 0,
-        level: 0,
-        offset: 0,
-    }
-}
-
-// Zeroes the bytes from `from` on.
-fn clear_from(out: &mut [u8], from: usize)
-    requires { ⌜ from ≤ length (now out) ⌝ }
-    ensures { λ _. ⌜ now (out .exit) ≡ take from (now (out .entry)) ++ replicate (length (now (out .entry)) - from) 0 ⌝ }
-{
-    let mut i = from;
-    while i < out.len() {
-        out[i] = 0;
-        i += 1;
-    }
-}
-
-// Copies the image to the front of the output.
-fn copy_image(out: &mut [u8], image: &[u8])
-    requires { ⌜ length (now image) ≤ length (now out) ⌝ }
-    ensures { λ _. ⌜ now (out .exit) ≡ now (image .entry) ++ drop (length (now (image .entry))) (now (out .entry)) ⌝ }
-{
-    let mut i: usize = 0;
-    while i < image.len() {
-        out[i] = image[i];
-        i += 1;
-    }
-}
-
 // The checks before pass 1, in order.
 fn check_inputs(
     image: &[u8],
@@ -86,7 +53,7 @@ fn check_inputs(
 ) -> Start
     ensures { λ s. ⌜ ((n : ℕ) → Starts (jobOf (regionOf r) (cpu .cr3) (cpu .cr4) offset (now (ranges .entry)) (now (image .entry)) extent n) s) ⌝ }
 {
-    let none = nowhere();
+    let none = pass1::nowhere();
     if !region::valid(r) {
         return Start::Refused(1, none);
     }
@@ -115,6 +82,22 @@ fn check_inputs(
         return Start::Refused(9, place);
     }
     Start::Root(table)
+}
+
+// The report of a build that both passes let through.
+fn accept(reached: Reached, store: Store, f: Fill) -> Report
+    requires { ⌜ (4096 * f .next < 2 ^ 64) × (store .front + store .back < 2 ^ 64) ⌝ }
+    ensures { λ p. ⌜ reportOf p ≡ counted reached store f ⌝ }
+{
+    let place = pass1::nowhere();
+    Report {
+        number: 0,
+        used: 4096 * f.next,
+        moved: (store.front + store.back) as u64,
+        merged: f.merged,
+        reached: reached.count(),
+        place: place,
+    }
 }
 
 // Both passes, over the output that holds the image and then zeros.
@@ -152,18 +135,7 @@ fn passes(
             };
             Ended::Stopped(number, place)
         }
-        Outcome::Go(f) => {
-            let place = nowhere();
-            let report = Report {
-                number: 0,
-                used: 4096 * f.next,
-                moved: (store.front + store.back) as u64,
-                merged: f.merged,
-                reached: reached.count(),
-                place: place,
-            };
-            Ended::Accepted(report)
-        }
+        Outcome::Go(f) => Ended::Accepted(accept(reached, store, f)),
     }
 }
 
@@ -171,7 +143,7 @@ fn passes(
 fn refuse(out: &mut [u8], scratch: &mut [u64], number: u64, place: Place) -> Report
     ensures { λ p. ⌜ Refuses number place p (now (out .entry)) (now (scratch .entry)) (now (out .exit)) (now (scratch .exit)) ⌝ }
 {
-    clear_from(out, 0);
+    words::clear(out, 0);
     moved::clear(scratch);
     Report {
         number: number,
@@ -199,8 +171,8 @@ pub fn build(
     match start {
         Start::Refused(number, place) => refuse(out, scratch, number, place),
         Start::Root(root) => {
-            copy_image(out, image);
-            clear_from(out, image.len());
+            words::copy(out, 0, image);
+            words::clear(out, image.len());
             let ended = passes(out, scratch, ranges, r, table_offset, root);
             match ended {
                 Ended::Stopped(number, place) => refuse(out, scratch, number, place),

@@ -55,19 +55,23 @@ allHold (x ∷ xs) = holds x && allHold xs
 unfoldable pub base : Mem
 base = put (put (put blank (slot 0 0) 0x101023) (slot 1 0) 0x102023) (slot 2 1) 0x2000E3
 
--- the base, with a size, an offset of the one range, and an image
-unfoldable pub job : ℕ → ℕ → Mem → Job
-job size o m = record {
+-- the base, with the last address and the offset of the one range, a size, and an image
+unfoldable pub jobTo : ℕ → ℕ → ℕ → Mem → Job
+jobTo last size o m = record {
   region = record { gpa = 0x100000; size = size; used = 0x3000 };
   cr3 = 0x100000;
   cr4 = 0;
   tableOffset = 0;
-  words = 0x200000 ∷ 0x3FFFFF ∷ o ∷ [];
+  words = 0x200000 ∷ last ∷ o ∷ [];
   imageLength = 0x3000;
   image = m;
   outputLength = size;
-  scratchLength = 3;
+  scratchLength = 6;
 }
+
+unfoldable pub job : ℕ → ℕ → Mem → Job
+unfolding jobTo
+job size o m = jobTo 0x3FFFFF size o m
 
 -- accepted: used, moved, merged, and the output
 unfoldable pub yields : ℕ → ℕ → ℕ → Mem → Built
@@ -80,6 +84,8 @@ yields used moved merged m = record {
 unfoldable pub refuses : ℕ → ℕ → ℕ → ℕ → Built
 refuses n a l o = refused n (record { address = a; level = l; offset = o })
 
+-- the starred ones; and last one that is not: a leaf moves to the old slot of another that moves on, so nothing may be put
+-- in while pass 1 still runs
 unfoldable pub examples : List Example
 examples =
     builds (job 0x8000 0x1FF000 base) (yields 0x3000 0 0 base)
@@ -96,4 +102,6 @@ examples =
     ∷ builds (job 0x8000 0x200000 (put base (slot 0 511) 0x100023)) (refuses 10 (511 * 2 ^ 39) 3 0)
     ∷ builds (job 0x8000 0x200000 (put base (slot 2 0) 0x103023)) (refuses 9 0 1 0)
     ∷ hasIndices 0x603000 (3 ∷ 3 ∷ 0 ∷ 0 ∷ [])
+    ∷ builds (jobTo 0x5FFFFF 0x8000 0x200000 (put base (slot 2 2) 0x4000E3))
+    (yields 0x3000 2 0 (put (put (put base (slot 2 1) 0) (slot 2 2) 0x4000E3) (slot 2 3) 0x6000E3))
     ∷ []

@@ -1,6 +1,6 @@
 -- The bytes of an accepted build's output: their words are the words that demand 3 speaks of (output-words), so its walks are
 -- walks in the buffer. Assumes nothing.
-use Prim.Native.Nat.{ℕ, zero, suc, _+_, _*_, _/_, _%_, _^_, _<_}
+use Prim.Native.Nat.{ℕ, _+_, _*_, _/_, _%_, _^_, _<_}
 use mathlib.Core.Path.{_≡_, refl}
 use mathlib.Core.List.{List, List·Memᴰ}
 use mathlib.Core.Logic.{⊎-elim}
@@ -8,13 +8,14 @@ use native.Mathlib.Decide.{decLe}
 use native.Mathlib.Omega.{arith}
 use Rattle.definitions.specs.Words.{wordsOf}
 use Rattle.definitions.specs.Geometry.{span}
-use Rattle.definitions.specs.Entry.{withField, withLeafAddress, withAddress, freshTable}
+use Rattle.definitions.specs.Entry.{freshTable}
 use Rattle.definitions.specs.Inputs.{Job}
 use Rattle.definitions.specs.Ranges.{kind, tableAddress, usedTables, allTables}
 use Rattle.definitions.specs.Pass1.{Moved, Act, keep, move, follow, refuse}
 use Rattle.definitions.specs.Build.{geometry, height, root, planOf, build, outputBytes}
 use Rattle.definitions.specs.Walk.{walk}
 use Rattle.definitions.specs.Demand.{Proper, after, entryBefore, actAt, remains}
+use Rattle.definitions.proofs.Fields.{address-word, leaf-word}
 use Rattle.definitions.proofs.Splits.{onBool}
 use Rattle.definitions.proofs.Regions.{region-aligned}
 use Rattle.definitions.proofs.Acts.{Means, act-means}
@@ -24,19 +25,6 @@ use Rattle.demands.proofs.Sound.{paging, plan-is, sound, moved-pointer,
 use Rattle.demands.proofs.Bridge.{moved, old}
 use Rattle.demands.proofs.Exact.{used-fits}
 use Rattle.demands.proofs.Outcome.{Ran, accepts, accepted-output}
-
--- entries with an address set are words
-
-leaf-word : (l e a : ℕ) → l < 3 → a % span l ≡ 0 → a < 2 ^ 52 → e < 2 ^ 64 → withLeafAddress l e a < 2 ^ 64
-unfolding withField span
-leaf-word zero e a hl h b w = omega arith
-leaf-word (suc zero) e a hl h b w = omega arith
-leaf-word (suc (suc zero)) e a hl h b w = omega arith
-leaf-word (suc (suc (suc l))) e a hl h b w = absurd (omega arith)
-
-pointer-word : (e a : ℕ) → a % 4096 ≡ 0 → a < 2 ^ 52 → e < 2 ^ 64 → withAddress e a < 2 ^ 64
-unfolding withField
-pointer-word e a h b w = omega arith
 
 module _ (j : Job) (proper : Proper j) (R : Ran j (build j)) where
   -- what pass 1 leaves
@@ -49,7 +37,7 @@ module _ (j : Job) (proper : Proper j) (R : Ran j (build j)) where
       turn (move x) m = omega arith
       turn (follow t v) m =
           let s = moved-pointer j proper (R .good) l e t (rw (plan-is j .old) at (m .0)) in
-          rw (m .2, plan-is j .offset) (pointer-word e _ (s .2) (s .3) w)
+          rw (m .2, plan-is j .offset) (address-word e _ (s .2) (s .3) w)
       turn (refuse n q) m = w
 
   pass1-entry : (t i : ℕ) → i < 512 → R .s .mem (512 * t + i) < 2 ^ 64

@@ -48,18 +48,19 @@ storing w t = record { reached = w .reached; store = t; number = w .number; plac
 
 -- ---- the task
 
-module _ (j : Job) (ws : List ℕ) (e l a : ℕ) where
-  pub told-absent : present e ≡ false → Told j ws e l a Skip
-  told-absent h n = act-absent (planOf j ws n) l a e h
+module _ (j : Job) (ws : List ℕ) (x : Spot) where
+  pub told-absent : present (x .entry) ≡ false → Told j ws x Skip
+  told-absent h n = act-absent (planOf j ws n) (x .level) (x .va) (x .entry) h
 
-  module _ (here : present e ≡ true) (points : pointer l e ≡ false) (s : Shift) (says : saysOf s ≡ decide (deciding (regionOf (j .old)) (j .offset) (rangesOf ws)) l a) where
-    pub told-stay : s ≡ Stay → Told j ws e l a Skip
-    told-stay q n = act-stay (planOf j ws n) l a e here points (sym says ∙ ap saysOf q)
+  module _ (here : present (x .entry) ≡ true) (points : pointer (x .level) (x .entry) ≡ false)
+      (s : Shift) (says : saysOf s ≡ decide (deciding (regionOf (j .old)) (j .offset) (rangesOf ws)) (x .level) (x .va)) where
+    pub told-stay : s ≡ Stay → Told j ws x Skip
+    told-stay q n = act-stay (planOf j ws n) (x .level) (x .va) (x .entry) here points (sym says ∙ ap saysOf q)
 
-    pub told-by : (o : ℕ) → s ≡ By o → Told j ws e l a (Leaf o)
+    pub told-by : (o : ℕ) → s ≡ By o → Told j ws x (Leaf o)
     unfolding act kind kindOf kindAct leafAct
     told-by o q n =
-        let d : decide (deciding (regionOf (j .old)) (j .offset) (rangesOf ws)) l a ≡ shift o = sym says ∙ ap saysOf q in
+        let d : decide (deciding (regionOf (j .old)) (j .offset) (rangesOf ws)) (x .level) (x .va) ≡ shift o = sym says ∙ ap saysOf q in
         rw (here, points, d)
 
 -- ---- a leaf that moves by o

@@ -14,7 +14,7 @@ use Rattle.definitions.specs.Entry.{pointer, address, withAddress}
 use Rattle.definitions.specs.Inputs.{Region}
 use Rattle.definitions.specs.Ranges.{within, tableAt, usedTables, shifted, tableIn}
 use Rattle.definitions.specs.Step.{Step}
-use Rattle.definitions.specs.Pass1.{State, Act, follow, act, perform}
+use Rattle.definitions.specs.Pass1.{State, Act, follow, perform}
 use Rattle.definitions.proofs.Answers.{and-l, and-r}
 use Rattle.definitions.proofs.Fields.{address-is}
 use Rattle.definitions.proofs.Pass1.{act-free, act-follow, act-into-moved, act-outside, perform-again, perform-down}
@@ -28,7 +28,7 @@ use Rattle.pass1.specs.declared.Walk.{Walk}
 use Rattle.pass1.specs.declared.Spot.{Spot}
 use Rattle.pass1.specs.declared.Turn.the-variants.{Down}
 use Rattle.pass1.specs.declared.Opened.{Opened}
-use Rattle.pass1.specs.Walks.{view, refusing, planOf, JobFits, performed, Points, ended, Opens}
+use Rattle.pass1.specs.Walks.{actAt, view, refusing, planOf, JobFits, performed, Points, ended, Opens}
 use Rattle.pass1.proofs.Moving.{outcome-go}
 
 nay : {A : Type 0} → _≡_ {A = ℕ} 0 1 → A
@@ -59,7 +59,7 @@ abbrev pub marking : Walk → Reached → Walk
 marking w t = record { reached = t; store = w .store; number = w .number; place = w .place }
 
 module _ (j : Job) (x : Spot) (m : Mem) (w : Walk) (a : ℕ) (points : Points x a) where
-  acts : {v : Act} (ws xs : List ℕ) (down : ℕ → State → Step State) → act (planOf j ws (length xs)) (x .level) (x .va) (x .entry) ≡ v
+  acts : {v : Act} (ws xs : List ℕ) (down : ℕ → State → Step State) → actAt (planOf j ws (length xs)) x ≡ v
       → perform (length xs / 3) down (x .level) (x .va) (x .at) (view m xs w) v ≡ performed j ws down x m xs w
   acts ws xs down e = sym (ap (perform (length xs / 3) down (x .level) (x .va) (x .at) (view m xs w)) e)
 
@@ -77,7 +77,7 @@ module _ (j : Job) (x : Spot) (m : Mem) (w : Walk) (a : ℕ) (points : Points x 
         })
 
     module _ (low : i < j .old .used / 4096) where
-      follows : (ws xs : List ℕ) → act (planOf j ws (length xs)) (x .level) (x .va) (x .entry) ≡ follow i (withAddress (x .entry) (shifted (address (x .entry)) (j .offset)))
+      follows : (ws xs : List ℕ) → actAt (planOf j ws (length xs)) x ≡ follow i (withAddress (x .entry) (shifted (address (x .entry)) (j .offset)))
       unfolding usedTables
       follows ws xs =
           act-follow (planOf j ws (length xs)) (x .level) (x .va) (x .entry) (points .here) (points .points) (inside .0) (rw (inside .1) low)

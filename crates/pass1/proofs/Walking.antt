@@ -11,7 +11,7 @@ use lib.ListN.{length}
 use Rattle.definitions.specs.Words.{Mem, Tables, slot, mark, noTables}
 use Rattle.definitions.specs.Geometry.{span}
 use Rattle.definitions.specs.Step.{Step, andThen, times}
-use Rattle.definitions.specs.Pass1.{Plan, Moved, State, Act, keep, moveAct, act, perform, visit, walkTable}
+use Rattle.definitions.specs.Pass1.{Plan, Moved, State, Act, keep, moveAct, perform, visit, walkTable}
 use Rattle.moved.specs.View.{Held, Empty}
 use Rattle.moved.proofs.Leaves.{empty-leaves}
 use Rattle.reached.specs.Held.{setOf}
@@ -21,7 +21,7 @@ use Rattle.pass1.specs.declared.Spot.{Spot}
 use Rattle.pass1.specs.declared.Turn.{Turn}
 use Rattle.pass1.specs.declared.Turn.the-variants.{Down, Done}
 use Rattle.pass1.specs.declared.Opened.{Opened}
-use Rattle.pass1.specs.Walks.{view, outcome, planOf, Told, Moves, Opens, opensTo, Lies, Visits, Walked, First}
+use Rattle.pass1.specs.Walks.{spotIn, actAt, view, outcome, planOf, Told, Moves, Opens, opensTo, Lies, Begins, Visits, Walked, First}
 use Rattle.pass1.specs.declared.Task.{Task}
 use Rattle.pass1.specs.declared.Task.the-variants.{Skip, Leaf}
 use Rattle.pass1.proofs.Moving.{outcome-go, outcome-stop}
@@ -31,11 +31,11 @@ module _ (j : Job) (ws : List ℕ) (x : Spot) (m : Mem) (xs : List ℕ) (w : Wal
   abbrev downOf : ℕ → State → Step State
   downOf = walkTable (planOf j ws (length xs)) (x .level) (x .va)
 
-  module _ (task : Task) (told : Told j ws (x .entry) (x .level) (x .va) task) where
+  module _ (task : Task) (told : Told j ws x task) where
     pub visits-skip : task ≡ Skip → w .number ≡ 0 → Visits j ws x m xs w m xs w
     unfolding perform
     visits-skip q runs =
-        let kept : act (planOf j ws (length xs)) (x .level) (x .va) (x .entry) ≡ keep = subst (Told j ws (x .entry) (x .level) (x .va)) q told (length xs) in
+        let kept : actAt (planOf j ws (length xs)) x ≡ keep = subst (Told j ws x) q told (length xs) in
         record {
           step = outcome-go m xs w runs ∙ sym (ap (perform (length xs / 3) downOf (x .level) (x .va) (x .at) (view m xs w)) kept);
           held = held;
@@ -45,7 +45,7 @@ module _ (j : Job) (ws : List ℕ) (x : Spot) (m : Mem) (xs : List ℕ) (w : Wal
     pub visits-leaf : (o : ℕ) → task ≡ Leaf o → (m′ : Mem) (ys : List ℕ) (r : Walk) → Moves x o m xs w m′ ys r → Visits j ws x m xs w m′ ys r
     visits-leaf o q m′ ys r d =
         let p : Plan = planOf j ws (length xs) in
-        let moves : act p (x .level) (x .va) (x .entry) ≡ moveAct p (x .level) (x .va) (x .entry) o = subst (Told j ws (x .entry) (x .level) (x .va)) q told (length xs) in
+        let moves : actAt p x ≡ moveAct p (x .level) (x .va) (x .entry) o = subst (Told j ws x) q told (length xs) in
         record {
           step = d .step p refl downOf ∙ sym (ap (perform (length xs / 3) downOf (x .level) (x .va) (x .at) (view m xs w)) moves);
           held = d .held;
@@ -110,27 +110,29 @@ module _ (j : Job) (ws : List ℕ) (n l a t : ℕ) where
   unfolding walkTable
   walk-begins s = refl
 
+  -- entry i, where the memory is m
+  abbrev pub entryAt : Mem → ℕ → Spot
+  entryAt m i = spotIn m (slot t i) l (a + i * span l)
+
   -- an entry that stays
-  pub walk-skips : (m : Mem) (s : State) → s .mem ≡ m → (i k e b : ℕ) → k ≡ 512 * t + i → b ≡ a + i * span l → e ≡ m k → act (planOf j ws n) l b e ≡ keep
-      → (c d i′ : ℕ) → d ≡ suc c → i′ ≡ suc i → (z : Step State) → times d turnOf i s ≡ z → times c turnOf i′ s ≡ z
+  pub walk-skips : (m : Mem) (xs : List ℕ) (w : Walk) (i : ℕ) (x : Spot) → x ≡ entryAt m i → Told j ws x Skip
+      → (c d i′ : ℕ) → d ≡ suc c → i′ ≡ suc i → (z : Step State) → times d turnOf i (view m xs w) ≡ z → times c turnOf i′ (view m xs w) ≡ z
   unfolding times andThen visit perform
-  walk-skips m s em i k e b at first reads h c d i′ ed ei z q =
-      let p : Plan = planOf j ws n in
-      let v : s .mem (slot t i) ≡ e = ap (λ (g : Mem). g (slot t i)) em ∙ ap m (sym at) ∙ sym reads in
-      let kept : act p l (a + i * span l) (s .mem (slot t i)) ≡ keep = ap₂ (λ (x y : ℕ). act p l x y) (sym first) v ∙ h in
+  walk-skips m xs w i x at told c d i′ ed ei z q =
+      let s : State = view m xs w in
+      let kept : actAt (planOf j ws n) (entryAt m i) ≡ keep = ap (actAt (planOf j ws n)) (sym at) ∙ told n in
       ap (λ (y : ℕ). times c turnOf y s) ei
-      ∙ ap (λ (y : Act). andThen (perform (n / 3) (walkTable p l (a + i * span l)) l (a + i * span l) (slot t i) s y) (λ s′. times c turnOf (suc i) s′)) (sym kept)
+      ∙ ap (λ (y : Act). andThen (perform (n / 3) (walkTable (planOf j ws n) l (a + i * span l)) l (a + i * span l) (slot t i) s y) (λ s′. times c turnOf (suc i) s′)) (sym kept)
       ∙ ap (λ (y : ℕ). times y turnOf i s) (sym ed) ∙ q
 
-  module _ (m : Mem) (xs : List ℕ) (w : Walk) (long : length xs ≡ n) (i k e b : ℕ) (at : k ≡ 512 * t + i) (first : b ≡ a + i * span l) (reads : e ≡ m k)
-      (m′ : Mem) (ys : List ℕ) (r : Walk) (visits : Visits j ws (record { at = k; entry = e; level = l; va = b }) m xs w m′ ys r) where
+  module _ (m : Mem) (xs : List ℕ) (w : Walk) (long : length xs ≡ n) (i : ℕ) (x : Spot) (at : x ≡ entryAt m i)
+      (m′ : Mem) (ys : List ℕ) (r : Walk) (visits : Visits j ws x m xs w m′ ys r) where
     turn-is : outcome m′ ys r ≡ turnOf i (view m xs w)
     unfolding visit
     turn-is =
         visits .step
-        ∙ ap (λ (c : ℕ). perform (c / 3) (walkTable (planOf j ws c) l b) l b k (view m xs w) (act (planOf j ws c) l b e)) long
-        ∙ ap (λ (c : ℕ). perform (n / 3) (walkTable (planOf j ws n) l b) l b k (view m xs w) (act (planOf j ws n) l b c)) reads
-        ∙ ap₂ (λ (k b : ℕ). perform (n / 3) (walkTable (planOf j ws n) l b) l b k (view m xs w) (act (planOf j ws n) l b (m k))) at first
+        ∙ ap (λ (c : ℕ). perform (c / 3) (walkTable (planOf j ws c) (x .level) (x .va)) (x .level) (x .va) (x .at) (view m xs w) (actAt (planOf j ws c) x)) long
+        ∙ ap (λ (y : Spot). perform (n / 3) (walkTable (planOf j ws n) (y .level) (y .va)) (y .level) (y .va) (y .at) (view m xs w) (actAt (planOf j ws n) y)) at
 
     pub walk-on : (c d i′ : ℕ) → d ≡ suc c → i′ ≡ suc i → r .number ≡ 0 → (z : Step State) → times d turnOf i (view m xs w) ≡ z → times c turnOf i′ (view m′ ys r) ≡ z
     unfolding times andThen
@@ -152,6 +154,14 @@ module _ (j : Job) (ws : List ℕ) (n l a t : ℕ) where
 
 pub lies-with : (l a i s : ℕ) → s ≡ span l → Lies (suc l) a → i < 512 → Lies l (a + i * s)
 lies-with l a i s e d h = subst (λ (n : ℕ). Lies l (a + i * n)) (sym e) (lies-at l a i d h)
+
+-- what was read at a word is at hand
+module _ (x : Spot) (m : Mem) (k l a : ℕ) (at : x ≡ spotIn m k l a) (level : l < 4) where
+  pub spot-lies : Lies l a → (x .level < 4) × Lies (x .level) (x .va)
+  spot-lies d = subst (λ (y : Spot). (y .level < 4) × Lies (y .level) (y .va)) (sym at) (level, d)
+
+  pub spot-begins : (out : List ℕ) (w : Walk) → 8 * k + 8 ≤ length out → w .number ≡ 0 → Begins out x w
+  spot-begins out w h runs = subst (λ (y : Spot). Begins out y w) (sym at) (record { fits = h; level = level; runs = runs })
 
 pub low-table : (l a : ℕ) → Lies (suc l) a → a + 512 * span l ≤ 2 ^ 48
 unfolding span

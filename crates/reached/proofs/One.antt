@@ -12,6 +12,7 @@ use lib.Seq.{ext-getD}
 use Rattle.definitions.specs.Words.{Tables}
 use Rattle.reached.specs.Held.{bits, setOf}
 use Rattle.reached.specs.declared.Reached.{Reached}
+use Rattle.reached.specs.declared.Marked.{Marked}
 
 -- what a [u64; 8] is
 pub record Words (ws : List ℕ) : Type 0 where
@@ -66,3 +67,13 @@ one-set x r s w v p q = ap (λ (ws : List ℕ). held ws) (same-words (r .words) 
 
 pub one-ask : (x : Tables) (i : ℕ) (r s : Bool) → r ≡ x i → s ≡ x i → r ≡ s
 one-ask x i r s p q = p ∙ sym q
+
+pub one-mark-and-ask : (x : Tables) (b : Bool) (r s : Marked) → Words (r .set .words) → Words (s .set .words)
+    → (setOf (r .set) ≡ x) × (r .was ≡ b) → (setOf (s .set) ≡ x) × (s .was ≡ b) → r ≡ s
+one-mark-and-ask x b r s w v p q = ap₂ both (one-set x (r .set) (s .set) w v (p .0) (q .0)) (p .1 ∙ sym (q .1))
+  where
+    both : Reached → Bool → Marked
+    both t a = record { set = t; was = a }
+
+pub one-count : (n r s : ℕ) → r ≡ n → s ≡ n → r ≡ s
+one-count n r s p q = p ∙ sym q

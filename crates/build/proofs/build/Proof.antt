@@ -1,5 +1,4 @@
 use native.Mathlib.Omega.{arith}
-use mathlib.Core.Path.{_∙_}
 use Rattle.build.proofs.Calls.{image-fits, begun, refused-builds, accepted-builds}
 use Rattle.build.specs.Meaning.{Starts, Passes}
 use Rattle.region.specs.Meaning.{regionOf}
@@ -8,7 +7,7 @@ use Rattle.definitions.specs.Build.{jobOf}
 use Rattle.definitions.specs.Words.{wordsOf}
 use lib.ListN.{length}
 use Prim.Native.Nat.{_≤_}
-use mathlib.Core.Path.{refl, subst}
+use mathlib.Core.Path.{refl, subst, _∙_}
 use borrow.Author.Needs.{needs}
 use Rattle.build.proofs.build.Statement.{statement}
 use Rattle.build.proofs.build.Tie as tie
@@ -25,24 +24,18 @@ refuse-requires c κs = search needs
 enum-known-start-2 : tie.Need-enum-known-start-2
 enum-known-start-2 c = search needs
 
-copy-image-requires : tie.Need-copy-image-requires
+copy-requires : tie.Need-copy-requires
 unfolding jobOf
-copy-image-requires c κs =
+copy-requires c κs =
     let a = c .before .before .before .before .before .before .before .before .before .args in
     let n = length (a .scratch .now) in
     let j = jobOf (regionOf (a .r)) (a .cpu .cr3) (a .cpu .cr4) (a .table-offset) (a .ranges .now) (a .image .now) (length (a .out .now)) n in
     let g = subst (Starts j) (c .before .before .start2 .given .1) (c .before .before .before .before .check-inputs .ensures n) in
-    image-fits j (g .0)
-
-clear-from-requires : tie.Need-clear-from-requires
-unfolding jobOf
-clear-from-requires c κs =
-    let a = c .before .before .before .before .before .before .before .before .before .before .before .before .before .args in
-    let n = length (a .scratch .now) in
-    let j = jobOf (regionOf (a .r)) (a .cpu .cr3) (a .cpu .cr4) (a .table-offset) (a .ranges .now) (a .image .now) (length (a .out .now)) n in
-    let g = subst (Starts j) (c .before .before .before .before .before .before .start2 .given .1) (c .before .before .before .before .before .before .before .before .check-inputs .ensures n) in
     let h : length (a .image .now) ≤ length (a .out .now) = image-fits j (g .0) in
-    omega (arith, c .before .before .out2 .given)
+    omega arith
+
+clear-requires : tie.Need-clear-requires
+clear-requires c κs = search needs
 
 passes-requires : tie.Need-passes-requires
 passes-requires c κs =
@@ -50,7 +43,7 @@ passes-requires c κs =
     let n = length (a .scratch .now) in
     let j = jobOf (regionOf (a .r)) (a .cpu .cr3) (a .cpu .cr4) (a .table-offset) (a .ranges .now) (a .image .now) (length (a .out .now)) n in
     let g = subst (Starts j) (c .before .before .before .before .before .before .before .before .before .before .before .start2 .given .1) (c .before .before .before .before .before .before .before .before .before .before .before .before .before .check-inputs .ensures n) in
-    let ready = begun (a .r) (a .cpu .cr3) (a .cpu .cr4) (a .table-offset) (a .ranges .now) (a .image .now) (a .out .now) (a .scratch .now) (g .0) _ (g .1) _ _ (c .before .before .before .before .before .before .before .before .copy-image .ensures) (c .before .before .before .before .clear-from .ensures) in
+    let ready = begun (a .r) (a .cpu .cr3) (a .cpu .cr4) (a .table-offset) (a .ranges .now) (a .image .now) (a .out .now) (a .scratch .now) (g .0) _ (g .1) _ _ (c .before .before .before .before .before .before .before .before .copy .ensures) (c .before .before .before .before .clear .ensures) in
     (j, ready)
 
 enum-known-ended : tie.Need-enum-known-ended
@@ -62,8 +55,8 @@ refuse-requires-2 c κs = search needs
 enum-known-ended-2 : tie.Need-enum-known-ended-2
 enum-known-ended-2 c = search needs
 
-clear-requires : tie.Need-clear-requires
-clear-requires c κs = search needs
+clear-requires-2 : tie.Need-clear-requires-2
+clear-requires-2 c κs = search needs
 
 same-length : tie.Need-same-length
 same-length c = search needs
@@ -92,7 +85,7 @@ returns-2 c =
     let n = length (a .scratch .now) in
     let j = jobOf (regionOf (a .r)) (a .cpu .cr3) (a .cpu .cr4) (a .table-offset) (a .ranges .now) (a .image .now) (length (a .out .now)) n in
     let g = subst (Starts j) (c .before .before .before .before .before .before .before .before .before .before .before .before .before .before .before .before .before .before .before .before .before .before .before .before .before .before .start2 .given .1) (c .before .before .before .before .before .before .before .before .before .before .before .before .before .before .before .before .before .before .before .before .before .before .before .before .before .before .before .before .check-inputs .ensures n) in
-    let ready = begun (a .r) (a .cpu .cr3) (a .cpu .cr4) (a .table-offset) (a .ranges .now) (a .image .now) (a .out .now) (a .scratch .now) (g .0) _ (g .1) _ _ (c .before .before .before .before .before .before .before .before .before .before .before .before .before .before .before .before .before .before .before .before .before .before .before .copy-image .ensures) (c .before .before .before .before .before .before .before .before .before .before .before .before .before .before .before .before .before .before .before .clear-from .ensures) in
+    let ready = begun (a .r) (a .cpu .cr3) (a .cpu .cr4) (a .table-offset) (a .ranges .now) (a .image .now) (a .out .now) (a .scratch .now) (g .0) _ (g .1) _ _ (c .before .before .before .before .before .before .before .before .before .before .before .before .before .before .before .before .before .before .before .before .before .before .before .copy .ensures) (c .before .before .before .before .before .before .before .before .before .before .before .before .before .before .before .before .before .before .before .clear .ensures) in
     let e = subst (Passes j (wordsOf (c .before .before .before .before .before .before .before .before .before .before .before .before .before .before .passes .last .0))) (c .before .before .before .before .before .before .before .before .ended .given .1) (c .before .before .before .before .before .before .before .before .before .before .before .before .before .before .passes .ensures j ready) in
     let long = c .before .before .before .before .before .before .before .before .before .before .before .before .before .out4 .given ∙ c .before .before .before .before .before .before .before .before .before .before .before .before .before .before .before .before .before .before .out3 .given ∙ c .before .before .before .before .before .before .before .before .before .before .before .before .before .before .before .before .before .before .before .before .before .before .out2 .given in
     refused-builds j n _ _ _ _ _ _ _ e (c .before .before .before .before .refuse2 .ensures) long (c .before .before .before .before .before .before .before .before .before .before .before .scratch2 .given)
@@ -110,10 +103,10 @@ returns-3 c =
     let n = length (a .scratch .now) in
     let j = jobOf (regionOf (a .r)) (a .cpu .cr3) (a .cpu .cr4) (a .table-offset) (a .ranges .now) (a .image .now) (length (a .out .now)) n in
     let g = subst (Starts j) (c .before .before .before .before .before .before .before .before .before .before .before .before .before .before .before .before .before .before .before .before .before .before .before .start2 .given .1) (c .before .before .before .before .before .before .before .before .before .before .before .before .before .before .before .before .before .before .before .before .before .before .before .before .before .check-inputs .ensures n) in
-    let ready = begun (a .r) (a .cpu .cr3) (a .cpu .cr4) (a .table-offset) (a .ranges .now) (a .image .now) (a .out .now) (a .scratch .now) (g .0) _ (g .1) _ _ (c .before .before .before .before .before .before .before .before .before .before .before .before .before .before .before .before .before .before .before .before .copy-image .ensures) (c .before .before .before .before .before .before .before .before .before .before .before .before .before .before .before .before .clear-from .ensures) in
+    let ready = begun (a .r) (a .cpu .cr3) (a .cpu .cr4) (a .table-offset) (a .ranges .now) (a .image .now) (a .out .now) (a .scratch .now) (g .0) _ (g .1) _ _ (c .before .before .before .before .before .before .before .before .before .before .before .before .before .before .before .before .before .before .before .before .copy .ensures) (c .before .before .before .before .before .before .before .before .before .before .before .before .before .before .before .before .clear .ensures) in
     let e = subst (Passes j (wordsOf (c .before .before .before .before .before .before .before .before .before .before .before .passes .last .0))) (c .before .before .before .before .before .ended2 .given .1) (c .before .before .before .before .before .before .before .before .before .before .before .passes .ensures j ready) in
     let long = c .before .before .before .before .before .before .before .before .before .before .out4 .given ∙ c .before .before .before .before .before .before .before .before .before .before .before .before .before .before .before .out3 .given ∙ c .before .before .before .before .before .before .before .before .before .before .before .before .before .before .before .before .before .before .before .out2 .given in
-    accepted-builds j n _ (c .before .before .before .before .before .before .before .before .before .before .before .passes .last .0) (c .before .before .before .before .before .before .before .before .before .before .before .passes .last .1 .0) _ e (λ i. omega (arith, c .before .before .before .before .before .before .before .before .before .slice-known7 .given i)) long (c .before .before .clear .ensures) (c .before .before .before .before .before .before .before .before .scratch2 .given)
+    accepted-builds j n _ (c .before .before .before .before .before .before .before .before .before .before .before .passes .last .0) (c .before .before .before .before .before .before .before .before .before .before .before .passes .last .1 .0) _ e (λ i. omega (arith, c .before .before .before .before .before .before .before .before .before .slice-known7 .given i)) long (c .before .before .clear2 .ensures) (c .before .before .before .before .before .before .before .before .scratch2 .given)
 
 pub build-spec : {M : Type 1} → statement M
 build-spec =
@@ -123,13 +116,13 @@ build-spec =
     enum-known-start
     refuse-requires
     enum-known-start-2
-    copy-image-requires
-    clear-from-requires
+    copy-requires
+    clear-requires
     passes-requires
     enum-known-ended
     refuse-requires-2
     enum-known-ended-2
-    clear-requires
+    clear-requires-2
     same-length
     same-length-2
     returns

@@ -37,27 +37,16 @@ enum-known-filled c = search needs
 enum-known-filled-2 : tie.Need-enum-known-filled-2
 enum-known-filled-2 c = search needs
 
-nowhere-requires : tie.Need-nowhere-requires
-nowhere-requires c κs = search needs
-
-mul-t31 : tie.Need-mul-t31
-mul-t31 c =
-    let a = c .before .before .before .before .before .before .before .before .before .before .before .before .before .before .before .before .before .before .before .before .before .before .before .before .before .before .before .args in
-    let q = c .before .before .before .before .before .before .before .before .before .before .before .before .before .before .before .before .before .before .before .before .before .before .before .before .before .before .before .pre in
-    let u = used-fits (q .0) (a .r) (a .offset) (a .ranges .now) (a .root) (a .out .now) (a .scratch .now) (q .1) (c .before .before .before .before .before .before .before .before .before .before .before .before .before .before .before .before .before .before .before .before .before .before .before .moved-by .result) (c .before .before .before .before .before .before .before .before .before .before .before .before .before .before .before .before .before .before .before .before .before .before .before .moved-by .ensures) _ _ _ (c .before .before .before .before .before .before .before .before .before .before .before .before .before .before .before .before .before .before .before .before .first-pass .ensures) (c .before .before .before .before .before .before .before .before .before .before .before .before .before .before .if1 .left) (c .before .before .before .before .before .before .before .before .before .before .before .before .before .before .before .before .before .before .before .before .first-pass .last .0) (c .before .before .before .before .before .before .before .before .before .second-pass .last .0) refl _ (c .before .before .before .before .before .before .before .before .before .second-pass .ensures) _ (c .before .before .before .filled2 .given .1) in
-    omega arith
-
-add-t32 : tie.Need-add-t32
-add-t32 c =
-    let a = c .before .before .before .before .before .before .before .before .before .before .before .before .before .before .before .before .before .before .before .before .before .before .before .before .before .before .before .before .args in
-    let h = c .before .before .before .before .before .before .before .before .before .before .before .before .before .before .before .before .before .before .before .before .before .first-pass .ensures .held .fits in
-    let k = c .before .before .before .before .before .before .before .before .before .before .before .before .before .before .before .before .before .before .before .before .before .first-pass .ensures .long in
-    let s = c .before .before .before .before .before .before .before .before .before .before .before .before .before .before .before .before .before .before .before .before .before .before .before .before .before .before .before .before .good in
-    let f = c .before .before .before .before .before .before .before .before .before .before .before .before .before .before .before .before .before .before .before .before .before .before .before .before .before .before .before .before .fits in
-    record { fits = omega (arith, h, k, s, f) }
-
-count-requires : tie.Need-count-requires
-count-requires c κs = search needs
+accept-requires : tie.Need-accept-requires
+accept-requires c κs =
+    let a = c .before .before .before .before .before .before .before .before .before .before .before .before .before .before .before .before .before .before .before .before .before .before .before .before .before .args in
+    let q = c .before .before .before .before .before .before .before .before .before .before .before .before .before .before .before .before .before .before .before .before .before .before .before .before .before .pre in
+    let u = used-fits (q .0) (a .r) (a .offset) (a .ranges .now) (a .root) (a .out .now) (a .scratch .now) (q .1) (c .before .before .before .before .before .before .before .before .before .before .before .before .before .before .before .before .before .before .before .before .before .moved-by .result) (c .before .before .before .before .before .before .before .before .before .before .before .before .before .before .before .before .before .before .before .before .before .moved-by .ensures) _ _ _ (c .before .before .before .before .before .before .before .before .before .before .before .before .before .before .before .before .before .before .first-pass .ensures) (c .before .before .before .before .before .before .before .before .before .before .before .before .if1 .left) (c .before .before .before .before .before .before .before .before .before .before .before .before .before .before .before .before .before .before .first-pass .last .0) (c .before .before .before .before .before .before .before .second-pass .last .0) refl _ (c .before .before .before .before .before .before .before .second-pass .ensures) _ (c .before .filled2 .given .1) in
+    let h = c .before .before .before .before .before .before .before .before .before .before .before .before .before .before .before .before .before .before .first-pass .ensures .held .fits in
+    let k = c .before .before .before .before .before .before .before .before .before .before .before .before .before .before .before .before .before .before .first-pass .ensures .long in
+    let s = c .before .before .before .before .before .before .before .before .before .before .before .before .before .before .before .before .before .before .before .before .before .before .before .before .before .good in
+    let f = c .before .before .before .before .before .before .before .before .before .before .before .before .before .before .before .before .before .before .before .before .before .before .before .before .before .fits in
+    (omega (arith, u), omega (arith, h, k, s, f))
 
 same-length-3 : tie.Need-same-length-3
 same-length-3 c = search needs
@@ -78,8 +67,8 @@ same-length-6 c = search needs
 
 returns-3 : tie.Need-returns-3
 returns-3 c =
-    let a = c .before .before .before .before .before .before .before .before .before .before .before .before .before .before .before .before .before .before .before .before .before .before .before .before .before .before .before .before .before .args in
-    λ j ready. ends-go j (a .r) (a .offset) (a .ranges .now) (a .root) (a .out .now) (a .scratch .now) ready (c .before .before .before .before .before .before .before .before .before .before .before .before .before .before .before .before .before .before .before .before .before .before .before .before .before .moved-by .result) (c .before .before .before .before .before .before .before .before .before .before .before .before .before .before .before .before .before .before .before .before .before .before .before .before .before .moved-by .ensures) _ _ _ (c .before .before .before .before .before .before .before .before .before .before .before .before .before .before .before .before .before .before .before .before .before .before .first-pass .ensures) (c .before .before .before .before .before .before .before .before .before .before .before .before .before .before .before .before .if1 .left) (c .before .before .before .before .before .before .before .before .before .before .before .before .before .before .before .before .before .before .before .before .before .before .first-pass .last .0) (c .before .before .before .before .before .before .before .before .before .before .before .second-pass .last .0) refl _ (c .before .before .before .before .before .before .before .before .before .before .before .second-pass .ensures) _ (c .before .before .before .before .before .filled2 .given .1) _ (c .before .before .before .nowhere .ensures) _ (c .count .ensures .0)
+    let a = c .before .before .before .before .before .before .before .before .before .before .before .before .before .before .before .before .before .before .before .before .before .before .before .before .before .before .args in
+    λ j ready. ends-go j (a .r) (a .offset) (a .ranges .now) (a .root) (a .out .now) (a .scratch .now) ready (c .before .before .before .before .before .before .before .before .before .before .before .before .before .before .before .before .before .before .before .before .before .before .moved-by .result) (c .before .before .before .before .before .before .before .before .before .before .before .before .before .before .before .before .before .before .before .before .before .before .moved-by .ensures) _ _ _ (c .before .before .before .before .before .before .before .before .before .before .before .before .before .before .before .before .before .before .before .first-pass .ensures) (c .before .before .before .before .before .before .before .before .before .before .before .before .before .if1 .left) (c .before .before .before .before .before .before .before .before .before .before .before .before .before .before .before .before .before .before .before .first-pass .last .0) (c .before .before .before .before .before .before .before .before .second-pass .last .0) refl _ (c .before .before .before .before .before .before .before .before .second-pass .ensures) _ (c .before .before .filled2 .given .1) _ (c .accept .ensures)
 
 pub passes-spec : {M : Type 1} → statement M
 passes-spec =
@@ -93,10 +82,7 @@ passes-spec =
     second-pass-requires
     enum-known-filled
     enum-known-filled-2
-    nowhere-requires
-    mul-t31
-    add-t32
-    count-requires
+    accept-requires
     same-length-3
     same-length-4
     returns-2

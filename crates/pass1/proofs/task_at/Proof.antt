@@ -12,7 +12,7 @@ is-present-requires c κs = search needs
 returns : tie.Need-returns
 returns c =
     let a = c .before .before .before .args in
-    told-absent (a .job) (a .ranges .now) (a .e) (a .level) (a .va) (sym (c .before .is-present .ensures) ∙ not-true _ (c .if1 .taken))
+    told-absent (a .job) (a .ranges .now) (a .spot) (sym (c .before .is-present .ensures) ∙ not-true _ (c .if1 .taken))
 
 points-to-table-requires : tie.Need-points-to-table-requires
 points-to-table-requires c κs = search needs
@@ -36,12 +36,12 @@ enum-known-said c = search needs
 returns-3 : tie.Need-returns-3
 returns-3 c =
     let a = c .before .before .before .before .before .before .before .before .before .args in
-    told-stay (a .job) (a .ranges .now) (a .e) (a .level) (a .va) (sym (c .before .before .before .before .before .before .before .is-present .ensures) ∙ not-false _ (c .before .before .before .before .before .before .if1 .left)) (sym (c .before .before .before .before .before .points-to-table .ensures) ∙ c .before .before .before .before .if2 .left) _ (c .before .before .lookup .ensures) (c .enum-told .given .1)
+    told-stay (a .job) (a .ranges .now) (a .spot) (sym (c .before .before .before .before .before .before .before .is-present .ensures) ∙ not-false _ (c .before .before .before .before .before .before .if1 .left)) (sym (c .before .before .before .before .before .points-to-table .ensures) ∙ c .before .before .before .before .if2 .left) _ (c .before .before .lookup .ensures) (c .enum-told .given .1)
 
 returns-4 : tie.Need-returns-4
 returns-4 c =
     let a = c .before .before .before .before .before .before .before .before .before .before .args in
-    told-by (a .job) (a .ranges .now) (a .e) (a .level) (a .va) (sym (c .before .before .before .before .before .before .before .before .is-present .ensures) ∙ not-false _ (c .before .before .before .before .before .before .before .if1 .left)) (sym (c .before .before .before .before .before .before .points-to-table .ensures) ∙ c .before .before .before .before .before .if2 .left) _ (c .before .before .before .lookup .ensures) _ (c .before .said .given .1)
+    told-by (a .job) (a .ranges .now) (a .spot) (sym (c .before .before .before .before .before .before .before .before .is-present .ensures) ∙ not-false _ (c .before .before .before .before .before .before .before .if1 .left)) (sym (c .before .before .before .before .before .before .points-to-table .ensures) ∙ c .before .before .before .before .before .if2 .left) _ (c .before .before .before .lookup .ensures) _ (c .before .said .given .1)
 
 pub task-at-spec : {M : Type 1} → statement M
 task-at-spec =
