@@ -7,6 +7,7 @@ count=${1:-100000}
 seed=${2:-1}
 . ../tests/host.sh
 host_tools
+library
 out=$PWD/../target/oracle
 for profile in release checked; do
   "$CARGO" build --quiet --offline --profile $profile $X86 --target-dir "$out" -p compare --bin compare

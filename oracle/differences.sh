@@ -5,6 +5,7 @@ set -euo pipefail
 cd "$(dirname "$0")"
 . ../tests/host.sh
 host_tools
+library
 out=$PWD/../target/oracle
 for profile in release checked; do
   "$CARGO" build --quiet --offline --profile $profile $X86 --target-dir "$out" -p compare --bin differences

@@ -1,5 +1,6 @@
 # To be sourced: finds, or installs from Debian's packages, a cargo that builds for x86-64 and what runs such programs here.
-# Sets CARGO, X86 (cargo's words for the target), CC_X86 and RUN_X86.
+# `host_tools` sets CARGO, X86 (cargo's words for the target), CC_X86 and RUN_X86; `library` proves and writes the
+# static library as the crates now are, unless ARCHWEND_LIB_DIR names a folder that has it, and sets that.
 
 X86_TARGET=x86_64-unknown-linux-gnu
 
@@ -55,4 +56,18 @@ host_tools() {
   CC_X86=x86_64-linux-gnu-gcc RUN_X86=qemu-x86_64
   export CARGO_TARGET_X86_64_UNKNOWN_LINUX_GNU_LINKER=x86_64-linux-gnu-gcc
   export CARGO_TARGET_X86_64_UNKNOWN_LINUX_GNU_RUNNER=qemu-x86_64
+}
+
+library() {
+  local root log
+  [ -z "${ARCHWEND_LIB_DIR:-}" ] || return 0
+  root=$(cd "$(dirname "${BASH_SOURCE[0]}")/.." && pwd)
+  log=$(mktemp)
+  (cd "$root" && rt staticlib archwend) >"$log" 2>&1 || {
+    cat "$log" >&2
+    rm -f "$log"
+    return 1
+  }
+  rm -f "$log"
+  export ARCHWEND_LIB_DIR=$root/target/staticlib
 }

@@ -23,14 +23,11 @@ examples() {
   if [ -z "${RUN_X86:-}" ]; then loader --doc; else RUSTC_BOOTSTRAP=1 loader --doc -Z doctest-xcompile; fi
 }
 c_program() {
-  $CC_X86 -std=c99 -Wall -Wextra -Werror -pedantic -I include loader/tests/base.c -L "$lib" -larchwend -o target/base && $RUN_X86 target/base
+  $CC_X86 -std=c99 -Wall -Wextra -Werror -pedantic -I include loader/tests/base.c -L "$ARCHWEND_LIB_DIR" -larchwend -o target/base && $RUN_X86 target/base
 }
 mkdir -p target
 host_tools || exit 1
-lib=${ARCHWEND_LIB_DIR:-target/staticlib}
-if [ ! -e "$lib/libarchwend.a" ]; then
-  step "static library" rt staticlib archwend
-fi
+library || exit 1
 step "loader" loader --tests
 step "loader's examples" examples
 step "C program" c_program

@@ -8,7 +8,7 @@ use std::collections::BTreeMap;
 use std::panic::{catch_unwind, AssertUnwindSafe};
 use zerocopy::{FromZeros, IntoBytes};
 
-const THIS: &str = if cfg!(overflow_checks_on) { "checks" } else { "wraps" };
+const THIS: &str = env!("OVERFLOW");
 
 /// One line: the loads that were not plainly taken, then the build. A panic's words depend on the compiler and are left out.
 fn line(a: &Answer) -> String {

@@ -16,7 +16,7 @@ fn main() {
     let number = |i: usize, default: u64| args.get(i).and_then(|s| s.parse().ok()).unwrap_or(default);
     let (count, seed) = (number(1, 1000), number(2, 1));
     let outside = args.iter().any(|a| a == "outside");
-    let build = if cfg!(overflow_checks_on) { "checks overflow" } else { "wraps" };
+    let build = if env!("OVERFLOW") == "checks" { "checks overflow" } else { "wraps" };
     jobs::quiet();
     println!("page_table.rs {} in a build that {build}; seed {seed}", original::PAGE_TABLE);
     let mut builds: BTreeMap<u64, u64> = BTreeMap::new();

@@ -1,0 +1,70 @@
+//! The Rust's recorded answers (crates/vectors/data) through the public calls. Entry operations are not exported, so those lines
+//! are the proved program's alone.
+
+use archwend::*;
+use std::collections::BTreeMap;
+
+/// The words of the tables that are not 0.
+fn words(bytes: &[u8]) -> BTreeMap<u64, u64> {
+    let word = |c: &[u8]| c.iter().rev().fold(0, |w, b| w << 8 | *b as u64);
+    bytes.chunks(8).map(word).enumerate().filter(|(_, w)| *w != 0).map(|(k, w)| (k as u64, w)).collect()
+}
+
+#[test]
+fn the_recorded_answers() {
+    let file = concat!(env!("CARGO_MANIFEST_DIR"), "/../crates/vectors/data/vectors");
+    let text = std::fs::read_to_string(file).expect("the vectors");
+    let mut region = (0, 0, 0);
+    let (mut entries, mut ranges, mut wanted, mut loads) = (BTreeMap::new(), Vec::new(), BTreeMap::new(), Vec::new());
+    let (mut cpu, mut offset, mut place, mut answer) = (CpuPagingState { cr3: 0, cr4: 0 }, 0, None, [0; 3]);
+    let mut builds = 0;
+    for line in text.lines() {
+        let mut w: Vec<u64> = line.split(' ').map(|x| u64::from_str_radix(x, 16).expect("hexadecimal")).collect();
+        w.resize(4, 0);
+        match w[0] {
+            1 => {
+                region = (w[1], w[2], w[3]);
+                entries.clear();
+                ranges.clear();
+                wanted.clear();
+                loads.clear();
+                place = None;
+            }
+            2 => drop(entries.insert(w[1], w[2])),
+            3 => ranges.push((w[1]..=w[2], w[3] as i64)),
+            4 => {
+                cpu = CpuPagingState { cr3: w[1], cr4: w[2] };
+                offset = w[3] as i64;
+            }
+            5 => answer = [w[1], w[2], w[3]],
+            6 => drop(wanted.insert(w[1], w[2])),
+            8 => loads.push((w[1], w[2] as usize, w[3])),
+            14 => place = Some((w[1], w[2], w[3] as i64)),
+            7 => {
+                let mut b = PageTableRelocationBuilder::new(region.0, region.1, region.2).unwrap();
+                for page in 0..region.2 / 4096 {
+                    let data: Vec<u8> = (0..512).flat_map(|i| entries.get(&(512 * page + i)).unwrap_or(&0).to_le_bytes()).collect();
+                    b.set_page_data(region.0 + 4096 * page, &data).unwrap();
+                }
+                for (gpa, len, number) in &loads {
+                    assert_eq!(b.set_page_data(*gpa, &vec![0x5a; *len]).err().map_or(0, |e| e.number), *number);
+                }
+                match b.build_and_report(offset, &ranges, cpu) {
+                    Ok((tables, report)) => {
+                        assert_eq!(answer, [0, report.used, report.merged]);
+                        assert_eq!(tables.len() as u64, report.used);
+                        assert_eq!(words(&tables), wanted);
+                    }
+                    Err(e) => {
+                        assert_eq!(answer, [e.number, 0, 0]);
+                        let at = (e.place.address, 4096 << (9 * e.place.level), e.place.offset);
+                        assert!(place.map_or(true, |p| p == at));
+                    }
+                }
+                builds += 1;
+            }
+            _ => {}
+        }
+    }
+    assert_eq!(builds, 150);
+}
