@@ -23,30 +23,38 @@ pub fn is_pointer(entry: u64, level: usize) -> bool {
     entry & 1 == 1 && !is_leaf(entry, level)
 }
 
-/// The leaves that a walk from the root reaches, as address, level and place among the words; each table once.
+/// The leaves that a walk from the root reaches, as address, level and place among the words. A table is walked where pass 1 first
+/// meets it: what it would meet again is refused.
 pub fn leaves(job: &Job, words: &[u64]) -> Vec<(u64, usize, usize)> {
     let mut found = Vec::new();
-    if job.cr3 < job.gpa || job.cr3 - job.gpa >= job.size {
-        return found;
-    }
     let mut reached = vec![false; words.len() / 512];
-    let mut work = vec![((job.cr3 - job.gpa) as usize / 4096, 3, 0)];
-    while let Some((table, level, base)) = work.pop() {
-        if table >= reached.len() || reached[table] {
-            continue;
-        }
-        reached[table] = true;
-        for i in 0..512 {
-            let e = words[512 * table + i];
-            let address = base + i as u64 * span(level);
-            if is_leaf(e, level) {
-                found.push((address, level, 512 * table + i));
-            } else if is_pointer(e, level) && (e & FIELD) >= job.gpa && (e & FIELD) - job.gpa < job.size {
-                work.push((((e & FIELD) - job.gpa) as usize / 4096, level - 1, address));
+    if let Some(root) = table(job, job.cr3) {
+        walk(job, words, root, 3, 0, &mut reached, &mut found);
+    }
+    found
+}
+
+/// The table of the region that has the address.
+fn table(job: &Job, address: u64) -> Option<usize> {
+    (address >= job.gpa && address - job.gpa < job.size).then(|| ((address - job.gpa) / 4096) as usize)
+}
+
+fn walk(job: &Job, words: &[u64], t: usize, level: usize, base: u64, reached: &mut [bool], found: &mut Vec<(u64, usize, usize)>) {
+    if t >= reached.len() || reached[t] {
+        return;
+    }
+    reached[t] = true;
+    for i in 0..512 {
+        let e = words[512 * t + i];
+        let address = base + i as u64 * span(level);
+        if is_leaf(e, level) {
+            found.push((address, level, 512 * t + i));
+        } else if is_pointer(e, level) {
+            if let Some(below) = table(job, e & FIELD) {
+                walk(job, words, below, level - 1, address, reached, found);
             }
         }
     }
-    found
 }
 
 /// Whether each leaf is touched by at most one range, the region's own included where it joins.
