@@ -2,24 +2,18 @@
 # compare.sh [COUNT] [SEED]: COUNT random jobs of the shared domain through the Rust original and through the proved library, in a
 # build that wraps and in one that checks overflow. The last line has the counts; status 0 only where nothing differs.
 set -euo pipefail
-cd "$(dirname "$0")"
 count=${1:-100000}
 seed=${2:-1}
-. ../tests/host.sh
-host_tools
-library
-out=$PWD/../target/oracle
-for profile in release checked; do
-  "$CARGO" build --quiet --offline --profile $profile $X86 --target-dir "$out" -p compare --bin compare
-done
+. "$(dirname "$0")/common.sh"
+build compare release checked
 said=$(mktemp -d)
 trap 'rm -rf "$said"' EXIT
 # OUTSIDE=1 also lists how the two differ outside the shared domain.
-run() { ${RUN_X86:-} "$out/$X86_TARGET/$1/compare" "$count" "$seed" ${OUTSIDE:+outside} >"$said/$1"; }
-run release &
+jobs_of() { run "$1" compare "$count" "$seed" ${OUTSIDE:+outside} >"$said/$1"; }
+jobs_of release &
 first=$!
 failed=0
-run checked || failed=1
+jobs_of checked || failed=1
 wait $first || failed=1
 cat "$said/release" "$said/checked"
 if [ $failed != 0 ]; then

@@ -9,7 +9,7 @@ use native.Mathlib.Omega.{arith}
 use lib.Dec.{eqb}
 use lib.ListN.{length, getD}
 use lib.Seq.{ext-getD}
-use Rattle.definitions.specs.Words.{Tables}
+use Rattle.definitions.specs.Words.{Tables, count}
 use Rattle.reached.specs.Held.{bits, setOf}
 use Rattle.reached.specs.declared.Reached.{Reached}
 use Rattle.reached.specs.declared.Marked.{Marked}
@@ -75,5 +75,5 @@ one-mark-and-ask x b r s w v p q = ap₂ both (one-set x (r .set) (s .set) w v (
     both : Reached → Bool → Marked
     both t a = record { set = t; was = a }
 
-pub one-count : (n r s : ℕ) → r ≡ n → s ≡ n → r ≡ s
-one-count n r s p q = p ∙ sym q
+pub one-count : (x : Tables) (r s : ℕ) → r ≡ count 512 0 x → s ≡ count 512 0 x → r ≡ s
+one-count x r s p q = p ∙ sym q
