@@ -4,8 +4,10 @@ use mathlib.Core.Path.{_≡_}
 use mathlib.Core.List.{List, [], _∷_}
 use Prim.Native.Nat.{ℕ}
 use lib.ListN.{replicate}
-use Rattle.definitions.specs.Inputs.{Region, Job, Report}
+use Rattle.definitions.specs.Inputs.{Job}
 use Rattle.definitions.specs.Build.{build, outputBytes}
+use Rattle.definitions.specs.declared.Region.{Region}
+use Rattle.definitions.specs.declared.Report.{Report}
 
 abbrev pub regionAt : ℕ → ℕ → ℕ → Region
 regionAt gpa size used = record { gpa = gpa; size = size; used = used }

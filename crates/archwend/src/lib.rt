@@ -1,6 +1,6 @@
 // The functions that a loader links: C's calling convention, a slice being a pointer and a length.
 use build::CpuPagingState;
-use region::Region;
+use definitions::Region;
 ghost use mathlib.Core.Path.{_≡_};
 ghost use lib.ListN.{length};
 ghost use Rattle.definitions.specs.Geometry.{four};

@@ -21,17 +21,17 @@ use Rattle.definitions.proofs.Steps.{After}
 use Rattle.definitions.proofs.Low.{Low, low-first}
 use Rattle.definitions.proofs.Checks.{Good, startState}
 use Rattle.definitions.proofs.Builds.{build-first, build-second, build-accepted, output-refused}
-use Rattle.region.specs.Meaning.{regionOf}
-use Rattle.region.specs.declared.Region.{Region}
+use Rattle.definitions.specs.declared.Place.{Place}
+use Rattle.definitions.specs.declared.Region.{Region}
+use Rattle.definitions.specs.declared.Report.{Report}
 use Rattle.ranges.specs.Lists.{validFor}
 use Rattle.moved.specs.View.{nth, leavesOf}
 use Rattle.moved.proofs.Leaves.{gather-in, leaves-length}
 use Rattle.reached.specs.Held.{setOf}
-use Rattle.pass1.specs.Walks.{placeOf, view, outcome, Asked, First}
+use Rattle.pass1.specs.Walks.{view, outcome, Asked, First}
 use Rattle.pass1.specs.Walks as P
 use Rattle.pass1.proofs.Moving.{outcome-go, outcome-stop}
 use Rattle.pass1.specs.declared.Job.{Job}
-use Rattle.pass1.specs.declared.Place.{Place}
 use Rattle.pass1.specs.declared.Walk.{Walk}
 use Rattle.pass2.specs.Meaning.{fill, Kept, Stored, Filled}
 use Rattle.pass2.specs.Meaning as S
@@ -39,9 +39,8 @@ use Rattle.pass2.proofs.All.{of-job}
 use Rattle.pass2.specs.declared.Fill.{Fill}
 use Rattle.pass2.specs.declared.Outcome.{Outcome}
 use Rattle.pass2.specs.declared.Outcome.the-variants.{Go, Stop}
-use Rattle.build.specs.declared.Report.{Report}
 use Rattle.build.specs.declared.Ended.the-variants.{Accepted}
-use Rattle.build.specs.Meaning.{reportOf, counted, Ready, Passes, Refuses, Builds}
+use Rattle.build.specs.Meaning.{counted, Ready, Passes, Refuses, Builds}
 use Rattle.build.proofs.Buffers.{image-then-zeros, cleared-length}
 
 -- what the code calls the passes with
@@ -49,35 +48,35 @@ abbrev pub jobWith : Region → Region → ℕ → Job
 jobWith old new o = record { old = old; new = new; offset = o }
 
 module _ (j : I.Job) (r : Region) (o : ℕ) (ws : List ℕ) (t : ℕ) (out xs : List ℕ) (ready : Ready j r o ws t out xs)
-    (new : Region) (moves : regionOf new ≡ movedRegion (regionOf r) o) where
+    (new : Region) (moves : new ≡ movedRegion r o) where
   -- ---- what the checks say in numbers
 
-  aligned : Aligned (2 ^ 48) (regionOf r)
+  aligned : Aligned (2 ^ 48) r
   unfolding geometryOf
-  aligned = region-aligned (2 ^ 48) (regionOf r) (subst (λ (z : I.Region). regionOk (2 ^ 48) z ≡ true) (ready .region) (ready .good .region))
+  aligned = region-aligned (2 ^ 48) r (subst (λ (z : Region). regionOk (2 ^ 48) z ≡ true) (ready .region) (ready .good .region))
 
   shifts : (o % 4096 ≡ 0) × (shifted (r .gpa) o + r .size ≤ 2 ^ 48)
   unfolding geometryOf
   shifts =
-      offset-aligned (2 ^ 48) (regionOf r) o
-      (sym (ap₂ (λ (z : I.Region) (k : ℕ). offsetOk (2 ^ 48) z k) (ready .region) (ready .offset)) ∙ ready .good .offset)
+      offset-aligned (2 ^ 48) r o
+      (sym (ap₂ (λ (z : Region) (k : ℕ). offsetOk (2 ^ 48) z k) (ready .region) (ready .offset)) ∙ ready .good .offset)
 
-  valid : validFor (regionOf r) ws ≡ true
+  valid : validFor r ws ≡ true
   unfolding geometryOf
   valid =
-      sym (ap₂ (λ (z : I.Region) (w : List ℕ). validFor z w) (ready .region) (ready .words))
+      sym (ap₂ (λ (z : Region) (w : List ℕ). validFor z w) (ready .region) (ready .words))
       ∙ both (listOk (j .words)) (rangesOk (2 ^ 48) (j .region) 0 (rangesOf (j .words))) (ready .good .list) (ready .good .ranges)
 
   low-root : t < r .used / 4096
   unfolding usedTables
   low-root =
-      let u : j .region .used ≡ r .used = ap (λ (z : I.Region). z .used) (ready .region) in
+      let u : j .region .used ≡ r .used = ap (λ (z : Region). z .used) (ready .region) in
       omega (arith, ready .root, ready .good .low, u)
 
   room : r .size ≤ length out
   room =
       let u : j .region .size ≤ j .outputLength = ready .good .output in
-      let z : j .region .size ≡ r .size = ap (λ (z : I.Region). z .size) (ready .region) in
+      let z : j .region .size ≡ r .size = ap (λ (z : Region). z .size) (ready .region) in
       omega (arith, ready .output)
 
   pub asked : Asked (jobWith r new o) ws (length out)
@@ -112,8 +111,8 @@ module _ (j : I.Job) (r : Region) (o : ℕ) (ws : List ℕ) (t : ℕ) (out xs : 
     unfolding firstPass geometryOf
     first-is = first .step ∙ (λ i. walkTable (plan-is i) 4 0 (ready .root i) (record { mem = ready .image i; reached = mark noTables (ready .root i); moved = [] }))
 
-    pub ends-first : (w .number ≡ 0 → ⊥) → build j ≡ refused (w .number) (placeOf (w .place))
-    ends-first h = build-first j (ready .good) (w .number) (placeOf (w .place)) (sym first-is ∙ outcome-stop m ys w h)
+    pub ends-first : (w .number ≡ 0 → ⊥) → build j ≡ refused (w .number) (w .place)
+    ends-first h = build-first j (ready .good) (w .number) (w .place) (sym first-is ∙ outcome-stop m ys w h)
 
     module _ (runs : w .number ≡ 0) where
       goes : firstPass j (startState j) ≡ go (view m ys w)
@@ -127,16 +126,16 @@ module _ (j : I.Job) (r : Region) (o : ℕ) (ws : List ℕ) (t : ℕ) (out xs : 
       unfolding movedRegion shifted
       new-whole =
           let a = aligned in
-          let e : new .gpa ≡ (r .gpa + o) % 2 ^ 64 = ap (λ (z : I.Region). z .gpa) moves in
+          let e : new .gpa ≡ (r .gpa + o) % 2 ^ 64 = ap (λ (z : Region). z .gpa) moves in
           omega (arith, a .gpa, shifts .0)
 
       pub stored : (b : ℕ) → b ≡ length out → Stored b new t ys (w .store)
       unfolding movedRegion
       stored b e =
           let a = aligned in
-          let g : new .gpa ≡ shifted (r .gpa) o = ap (λ (z : I.Region). z .gpa) moves in
-          let s : new .size ≡ r .size = ap (λ (z : I.Region). z .size) moves in
-          let u : new .used ≡ r .used = ap (λ (z : I.Region). z .used) moves in
+          let g : new .gpa ≡ shifted (r .gpa) o = ap (λ (z : Region). z .gpa) moves in
+          let s : new .size ≡ r .size = ap (λ (z : Region). z .size) moves in
+          let u : new .used ≡ r .used = ap (λ (z : Region). z .used) moves in
           record {
             gpaWhole = new-whole;
             sizeWhole = omega (arith, a .size);
@@ -160,19 +159,19 @@ module _ (j : I.Job) (r : Region) (o : ℕ) (ws : List ℕ) (t : ℕ) (out xs : 
             of-job j (view m ys w) new ys (w .store) mid zs f (moves ∙ sym (ap₂ movedRegion (ready .region) (ready .offset))) refl same
             (subst (λ (k : ℕ). Filled new k ys (w .store) mid zs f) (ready .root) filled)
 
-        pub ends-second : (n a l : ℕ) → f ≡ Stop n a l → build j ≡ refused n (I.placeAt a l)
-        ends-second n a l q =
-            build-second j (ready .good) (view m ys w) goes n (I.placeAt a l) (sym second-is ∙ ap (S.outcome (wordsOf zs)) q)
+        pub ends-second : (n : ℕ) (q : Place) → f ≡ Stop n q → build j ≡ refused n q
+        ends-second n q e =
+            build-second j (ready .good) (view m ys w) goes n q (sym second-is ∙ ap (S.outcome (wordsOf zs)) e)
 
         -- the new used length fits
         pub used-fits : (g : Fill) → f ≡ Go g → 4096 * g .next ≤ 2097152
         unfolding movedRegion
         used-fits g q =
             let k : Kept new (w .store .front + w .store .back) (record { next = new .used / 4096; merged = 0 }) (Go g) = subst (Kept new (w .store .front + w .store .back) (record { next = new .used / 4096; merged = 0 })) q (filled .kept) in
-            let s : new .size ≡ r .size = ap (λ (z : I.Region). z .size) moves in
+            let s : new .size ≡ r .size = ap (λ (z : Region). z .size) moves in
             omega (arith, k .0, aligned .most)
 
-        pub ends-go : (g : Fill) → f ≡ Go g → (p : Report) → reportOf p ≡ counted (w .reached) (w .store) g → Passes j (wordsOf zs) (Accepted p)
+        pub ends-go : (g : Fill) → f ≡ Go g → (p : Report) → p ≡ counted (w .reached) (w .store) g → Passes j (wordsOf zs) (Accepted p)
         unfolding accepted
         ends-go g q p ep =
             let e : build j ≡ accepted (view m ys w) (fill (wordsOf zs) g) = build-accepted j (ready .good) (view m ys w) goes (fill (wordsOf zs) g) (sym second-is ∙ ap (S.outcome (wordsOf zs)) q) in
@@ -186,14 +185,14 @@ pub image-fits : (j : I.Job) → Good j → j .imageLength ≤ j .outputLength
 image-fits j g = let a = region-aligned (geometry j .limit) (j .region) (g .region) in omega (arith, a .fits, g .image, g .output)
 
 -- the output holds the image and then zeros
-module _ (r : Region) (cr3 cr4 o : ℕ) (ws image out xs : List ℕ) (good : Good (jobOf (regionOf r) cr3 cr4 o ws image (length out) (length xs))) where
+module _ (r : Region) (cr3 cr4 o : ℕ) (ws image out xs : List ℕ) (good : Good (jobOf r cr3 cr4 o ws image (length out) (length xs))) where
   fits : length image ≤ length out
   unfolding jobOf
   fits = image-fits _ good
 
-  pub begun : (t : ℕ) → t ≡ root (jobOf (regionOf r) cr3 cr4 o ws image (length out) (length xs))
+  pub begun : (t : ℕ) → t ≡ root (jobOf r cr3 cr4 o ws image (length out) (length xs))
       → (mid bytes : List ℕ) → mid ≡ paste out 0 image (length image) → bytes ≡ clearedFrom (length image) mid
-      → Ready (jobOf (regionOf r) cr3 cr4 o ws image (length out) (length xs)) r o ws t bytes xs
+      → Ready (jobOf r cr3 cr4 o ws image (length out) (length xs)) r o ws t bytes xs
   unfolding jobOf
   begun t h mid bytes e f =
       let held : bytes ≡ image ++ replicate (length out - length image) 0 = image-then-zeros out image mid bytes fits e f in
@@ -209,12 +208,12 @@ module _ (r : Region) (cr3 cr4 o : ℕ) (ws image out xs : List ℕ) (good : Goo
       }
 
 module _ (j : I.Job) (k : ℕ) (p : Report) where
-  pub refused-builds : (n : ℕ) (q : Place) (bytes words bytes′ words′ : List ℕ) → build j ≡ refused n (placeOf q) → Refuses n q p bytes words bytes′ words′
+  pub refused-builds : (n : ℕ) (q : Place) (bytes words bytes′ words′ : List ℕ) → build j ≡ refused n q → Refuses n q p bytes words bytes′ words′
       → length bytes ≡ j .outputLength → length words ≡ k → Builds j k p bytes′ words′
   refused-builds n q bytes words bytes′ words′ e d lb lw =
       record {
         report = d .report ∙ sym (ap (λ (b : I.Built). b .report) e);
-        output = d .output ∙ ap (λ (i : ℕ). replicate i 0) lb ∙ sym (output-refused j n (placeOf q) e);
+        output = d .output ∙ ap (λ (i : ℕ). replicate i 0) lb ∙ sym (output-refused j n q e);
         scratch = d .scratch ∙ ap (λ (i : ℕ). replicate i 0) lw;
       }
 

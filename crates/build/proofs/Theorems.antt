@@ -14,15 +14,16 @@ use Rattle.definitions.specs.Demand.{Proper, after, Rebuilt}
 use Rattle.definitions.specs.Conditions.{Exact}
 use Rattle.definitions.proofs.Words.{Bytes}
 use Rattle.definitions.proofs.Jobs.{job-proper}
+use Rattle.definitions.specs.declared.Region.{Region}
+use Rattle.definitions.specs.declared.Report.{Report}
 use Rattle.demands.proofs.Main.{rebuilt}
 use Rattle.demands.proofs.Exact.{exact}
 use Rattle.demands.proofs.Bytes.{after-in}
-use Rattle.build.specs.declared.Report.{Report}
 use Rattle.build.specs.Meaning.{Builds}
 
 -- the numbers and buffers that a call is given
 pub record Call : Type 0 where
-  pub region : I.Region
+  pub region : Region
   pub cr3 : ℕ
   pub cr4 : ℕ
   pub offset : ℕ
@@ -51,7 +52,7 @@ call-exact c = exact (asked c) (proper c)
 -- the report p has number 0, and out are the bytes of the output
 module _ (c : Call) (p : Report) (out scratch : List ℕ) (b : Builds (asked c) (c .scratch) p out scratch) (yes : p .number ≡ 0) where
   accepts : build (asked c) .report .number ≡ 0
-  accepts = sym (ap (λ (r : I.Report). r .number) (b .report)) ∙ yes
+  accepts = sym (ap (λ (r : Report). r .number) (b .report)) ∙ yes
 
   -- demand 3 holds
   pub call-rebuilt : Rebuilt (asked c)

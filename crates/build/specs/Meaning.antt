@@ -9,32 +9,20 @@ use Rattle.definitions.specs.Inputs as I
 use Rattle.definitions.specs.Step.{stop}
 use Rattle.definitions.specs.Build.{root, start, refused, build, outputBytes}
 use Rattle.definitions.proofs.Checks.{Good}
-use Rattle.region.specs.Meaning.{regionOf}
-use Rattle.region.specs.declared.Region.{Region}
+use Rattle.definitions.specs.declared.Place.{Place}
+use Rattle.definitions.specs.declared.Region.{Region}
+use Rattle.definitions.specs.declared.Report.{Report}
 use Rattle.moved.specs.declared.Store.{Store}
 use Rattle.reached.specs.Held.{setOf}
 use Rattle.reached.specs.declared.Reached.{Reached}
 use Rattle.pass2.specs.declared.Fill.{Fill}
-use Rattle.pass1.specs.Walks.{placeOf}
-use Rattle.pass1.specs.declared.Place.{Place}
-use Rattle.build.specs.declared.Report.{Report}
 use Rattle.build.specs.declared.Start.{Start}
 use Rattle.build.specs.declared.Start.the-variants.{Root, Refused}
 use Rattle.build.specs.declared.Ended.{Ended}
 use Rattle.build.specs.declared.Ended.the-variants.{Accepted, Stopped}
 
-abbrev pub reportOf : Report → I.Report
-reportOf p = record {
-  number = p .number;
-  used = p .used;
-  moved = p .moved;
-  merged = p .merged;
-  reached = p .reached;
-  place = placeOf (p .place);
-}
-
 -- the report of a build that both passes let through
-abbrev pub counted : Reached → Store → Fill → I.Report
+abbrev pub counted : Reached → Store → Fill → Report
 counted reached store f = record {
   number = 0;
   used = 4096 * f .next;
@@ -47,12 +35,12 @@ counted reached store f = record {
 -- the checks: all passed, and t is the root's table; or the first that applies
 abbrev pub Starts : I.Job → Start → Type 0
 Starts j (Root t) = Good j × (t ≡ root j)
-Starts j (Refused n p) = start j ≡ stop n (placeOf p)
+Starts j (Refused n p) = start j ≡ stop n p
 
 -- the passes are called for job j: its checks passed, and the output holds its image
 pub record Ready (j : I.Job) (r : Region) (o : ℕ) (ws : List ℕ) (t : ℕ) (out scratch : List ℕ) : Type 0 where
   pub good : Good j
-  pub region : j .region ≡ regionOf r
+  pub region : j .region ≡ r
   pub offset : j .tableOffset ≡ o
   pub words : j .words ≡ ws
   pub root : t ≡ root j
@@ -61,16 +49,16 @@ pub record Ready (j : I.Job) (r : Region) (o : ℕ) (ws : List ℕ) (t : ℕ) (o
   pub room : length scratch ≡ j .scratchLength
 
 abbrev pub Passes : I.Job → Mem → Ended → Type 0
-Passes j m (Accepted p) = (reportOf p ≡ build j .report) × (m ≡ build j .output)
-Passes j m (Stopped n p) = build j ≡ refused n (placeOf p)
+Passes j m (Accepted p) = (p ≡ build j .report) × (m ≡ build j .output)
+Passes j m (Stopped n p) = build j ≡ refused n p
 
 pub record Refuses (n : ℕ) (q : Place) (p : Report) (bytes words bytes′ words′ : List ℕ) : Type 0 where
-  pub report : reportOf p ≡ refused n (placeOf q) .report
+  pub report : p ≡ refused n q .report
   pub output : bytes′ ≡ replicate (length bytes) 0
   pub scratch : words′ ≡ replicate (length words) 0
 
 -- what a build promises, with n words of scratch: the report, every byte of the output and every word of the scratch
 pub record Builds (j : I.Job) (n : ℕ) (p : Report) (bytes words : List ℕ) : Type 0 where
-  pub report : reportOf p ≡ build j .report
+  pub report : p ≡ build j .report
   pub output : bytes ≡ outputBytes j
   pub scratch : words ≡ replicate n 0

@@ -1,11 +1,12 @@
 // The build: the checks, both passes, and the report.
+use definitions::Place;
+use definitions::Region;
+use definitions::Report;
 use moved::Store;
 use pass1::Job;
-use pass1::Place;
 use pass2::Fill;
 use pass2::Outcome;
 use reached::Reached;
-use region::Region;
 use region::TableIndex;
 ghost use mathlib.Core.Path.{_≡_};
 ghost use Prim.Native.Nat.{ℕ, _+_, _-_, _*_, _^_, _<_};
@@ -13,21 +14,11 @@ ghost use lib.ListN.{length};
 ghost use Rattle.definitions.specs.Inputs as I;
 ghost use Rattle.definitions.specs.Words.{wordsOf};
 ghost use Rattle.definitions.specs.Build.{jobOf};
-ghost use Rattle.region.specs.Meaning.{regionOf};
-ghost use Rattle.build.specs.Meaning.{reportOf, counted, Starts, Ready, Passes, Refuses, Builds};
+ghost use Rattle.build.specs.Meaning.{counted, Starts, Ready, Passes, Refuses, Builds};
 
 pub struct CpuPagingState {
     pub cr3: u64,
     pub cr4: u64,
-}
-
-pub struct Report {
-    pub number: u64,
-    pub used: u64,
-    pub moved: u64,
-    pub merged: u64,
-    pub reached: u64,
-    pub place: Place,
 }
 
 // What the checks before pass 1 give: the root's table, or the first refusal that applies.
@@ -51,7 +42,7 @@ fn check_inputs(
     cpu: CpuPagingState,
     offset: u64,
 ) -> Start
-    ensures { λ s. ⌜ ((n : ℕ) → Starts (jobOf (regionOf r) (cpu .cr3) (cpu .cr4) offset (now (ranges .entry)) (now (image .entry)) extent n) s) ⌝ }
+    ensures { λ s. ⌜ ((n : ℕ) → Starts (jobOf r (cpu .cr3) (cpu .cr4) offset (now (ranges .entry)) (now (image .entry)) extent n) s) ⌝ }
 {
     let none = pass1::nowhere();
     if !region::valid(r) {
@@ -87,7 +78,7 @@ fn check_inputs(
 // The report of a build that both passes let through.
 fn accept(reached: Reached, store: Store, f: Fill) -> Report
     requires { ⌜ (4096 * f .next < 2 ^ 64) × (store .front + store .back < 2 ^ 64) ⌝ }
-    ensures { λ p. ⌜ reportOf p ≡ counted reached store f ⌝ }
+    ensures { λ p. ⌜ p ≡ counted reached store f ⌝ }
 {
     let place = pass1::nowhere();
     Report {
@@ -127,14 +118,7 @@ fn passes(
     let reached = walked.reached;
     let filled = pass2::second_pass(out, new, root, scratch, store);
     match filled {
-        Outcome::Stop(number, address, level) => {
-            let place = Place {
-                address: address,
-                level: level,
-                offset: 0,
-            };
-            Ended::Stopped(number, place)
-        }
+        Outcome::Stop(number, place) => Ended::Stopped(number, place),
         Outcome::Go(f) => Ended::Accepted(accept(reached, store, f)),
     }
 }
@@ -165,7 +149,7 @@ pub fn build(
     cpu: CpuPagingState,
     table_offset: u64,
 ) -> Report
-    ensures { λ p. ⌜ Builds (jobOf (regionOf r) (cpu .cr3) (cpu .cr4) «table_offset» (now (ranges .entry)) (now (image .entry)) (length (now (out .entry))) (length (now (scratch .entry)))) (length (now (scratch .entry))) p (now (out .exit)) (now (scratch .exit)) ⌝ }
+    ensures { λ p. ⌜ Builds (jobOf r (cpu .cr3) (cpu .cr4) «table_offset» (now (ranges .entry)) (now (image .entry)) (length (now (out .entry))) (length (now (scratch .entry)))) (length (now (scratch .entry))) p (now (out .exit)) (now (scratch .exit)) ⌝ }
 {
     let start = check_inputs(image, out.len(), ranges, r, cpu, table_offset);
     match start {

@@ -11,7 +11,7 @@ use Rattle.definitions.specs.Geometry.{span}
 use Rattle.definitions.specs.Entry.{freshTable}
 use Rattle.definitions.specs.Inputs.{Job}
 use Rattle.definitions.specs.Ranges.{kind, tableAddress, usedTables, allTables}
-use Rattle.definitions.specs.Pass1.{Moved, Act, keep, move, follow, refuse}
+use Rattle.definitions.specs.Pass1.{Act, keep, move, follow, refuse}
 use Rattle.definitions.specs.Build.{geometry, height, root, planOf, build, outputBytes}
 use Rattle.definitions.specs.Walk.{walk}
 use Rattle.definitions.specs.Demand.{Proper, after, entryBefore, actAt, remains}
@@ -20,6 +20,7 @@ use Rattle.definitions.proofs.Splits.{onBool}
 use Rattle.definitions.proofs.Regions.{region-aligned}
 use Rattle.definitions.proofs.Acts.{Means, act-means}
 use Rattle.definitions.proofs.Buffers.{words-bytes}
+use Rattle.definitions.specs.declared.Moved.{Moved}
 use Rattle.demands.proofs.Insert.{Puts}
 use Rattle.demands.proofs.Sound.{paging, plan-is, sound, moved-pointer, new-table}
 use Rattle.demands.proofs.Bridge.{moved, old}

@@ -6,10 +6,10 @@ use mathlib.Core.Logic.{inl, inr, ⊎-elim, _↔_}
 use native.Mathlib.Nat.{div-add-mod'}
 use native.Mathlib.Omega.{arith}
 use Rattle.definitions.specs.Geometry.{span, part}
-use Rattle.definitions.specs.Inputs.{Job, Place, placeWith}
+use Rattle.definitions.specs.Inputs.{Job, placeWith}
 use Rattle.definitions.specs.Ranges.{shift, decide, shifted}
 use Rattle.definitions.specs.Offset.{signed, Fits}
-use Rattle.definitions.specs.Pass1.{Moved, refuse, act}
+use Rattle.definitions.specs.Pass1.{refuse, act}
 use Rattle.definitions.specs.Build.{geometry, height, planOf}
 use Rattle.definitions.specs.Demand.{Proper, Reached, stopBefore, entryBefore, fate, Moves, MovedBy}
 use Rattle.definitions.specs.Conditions.{BadEntry, inTail, intoMoved, notWhole, tooFar, BadTables, bad, again, twice, taken, crowded, BadPlaces, onLeaf, inSpan, onPast, onTable, onOther, noRoom, Refusal, TooFar}
@@ -18,6 +18,8 @@ use Rattle.definitions.proofs.Acts.{MovesAs, act-means}
 use Rattle.definitions.proofs.Refusals.{refuse-iff}
 use Rattle.definitions.proofs.Offsets.{deciding-offsets, decide-offset, target-shifted, past-iff}
 use Rattle.definitions.proofs.Checks.{bad-input-number, limit-field, walked-word}
+use Rattle.definitions.specs.declared.Moved.{Moved}
+use Rattle.definitions.specs.declared.Place.{Place}
 use Rattle.demands.proofs.Visit.{way-part}
 use Rattle.demands.proofs.Sound.{plan-is}
 

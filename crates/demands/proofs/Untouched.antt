@@ -11,7 +11,6 @@ use Rattle.definitions.specs.Geometry.{part}
 use Rattle.definitions.specs.Entry.{present}
 use Rattle.definitions.specs.Inputs.{Job}
 use Rattle.definitions.specs.Ranges.{Kind, absent, leaf, outside, table, usedTables}
-use Rattle.definitions.specs.Pass1.{Moved}
 use Rattle.definitions.specs.Build.{geometry, height, planOf, build}
 use Rattle.definitions.specs.Walk.{nothing, endOf, endAt}
 use Rattle.definitions.specs.Demand.{Proper, IsRead, readsBefore, Reached, Written, leafIn, tableIn, Became, Untouched}
@@ -19,6 +18,7 @@ use Rattle.definitions.proofs.Splits.{onBool}
 use Rattle.definitions.proofs.Levels.{part-below}
 use Rattle.definitions.proofs.Regions.{region-aligned}
 use Rattle.definitions.proofs.Reading.{kind-tells}
+use Rattle.definitions.specs.declared.Moved.{Moved}
 use Rattle.demands.proofs.Insert.{at, Puts, Wrote, ended}
 use Rattle.demands.proofs.Visit.{Sound}
 use Rattle.demands.proofs.Sound.{paging, passing, sound}

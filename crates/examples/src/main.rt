@@ -1,9 +1,9 @@
 // Document 01's checked examples through the build, on bytes. One line each: the offset of the one range, what differs from
 // the base, the report, and each entry of the output that differs from the image.
 use build::CpuPagingState;
-use build::Report;
+use definitions::Region;
+use definitions::Report;
 use libc::STDOUT_FILENO;
-use region::Region;
 
 const GPA: u64 = 0x10_0000;
 

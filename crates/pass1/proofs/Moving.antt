@@ -14,17 +14,17 @@ use Rattle.definitions.specs.Entry.{present, pointer, withLeafAddress}
 use Rattle.definitions.specs.Inputs.{placeAt}
 use Rattle.definitions.specs.Ranges.{shifted, kind, kindOf, decide, deciding, rangesOf, shift}
 use Rattle.definitions.specs.Step.{Step, go, stop, unless, andThen}
-use Rattle.definitions.specs.Pass1.{Plan, Moved, State, taken, remember, moveAct, leafAct, kindAct, act, perform}
+use Rattle.definitions.specs.Pass1.{Plan, State, taken, remember, moveAct, leafAct, kindAct, act, perform}
 use Rattle.definitions.proofs.Pass1.{act-absent, act-stay}
 use Rattle.definitions.proofs.Steps.{unless-then}
 use Rattle.definitions.proofs.Levels.{page-fits}
+use Rattle.definitions.specs.declared.Moved.{Moved}
 use Rattle.entry.proofs.Bits.{pages}
 use Rattle.moved.specs.View.{leaf, leavesOf, keptStep, KeptIn, Keeps, Held}
 use Rattle.moved.specs.declared.Store.{Store}
 use Rattle.moved.specs.declared.Kept.{Kept}
 use Rattle.moved.specs.declared.Kept.the-variants as kept
 use Rattle.reached.specs.Held.{setOf}
-use Rattle.region.specs.Meaning.{regionOf}
 use Rattle.ranges.specs.Lists.{saysOf}
 use Rattle.ranges.specs.declared.Shift.{Shift}
 use Rattle.ranges.specs.declared.Shift.the-variants.{By, Stay}
@@ -32,14 +32,14 @@ use Rattle.pass1.specs.declared.Job.{Job}
 use Rattle.pass1.specs.declared.Walk.{Walk}
 use Rattle.pass1.specs.declared.Spot.{Spot}
 use Rattle.pass1.specs.declared.Task.the-variants.{Skip, Leaf}
-use Rattle.pass1.specs.Walks.{view, outcome, placeOf, refusing, planOf, Told, Moves}
+use Rattle.pass1.specs.Walks.{view, outcome, refusing, planOf, Told, Moves}
 
 -- ---- the state
 
 pub outcome-go : (m : Mem) (xs : List ℕ) (w : Walk) → w .number ≡ 0 → outcome m xs w ≡ go (view m xs w)
 outcome-go m xs w h = rw (eq-eqb (w .number) 0 h)
 
-pub outcome-stop : (m : Mem) (xs : List ℕ) (w : Walk) → (w .number ≡ 0 → ⊥) → outcome m xs w ≡ stop (w .number) (placeOf (w .place))
+pub outcome-stop : (m : Mem) (xs : List ℕ) (w : Walk) → (w .number ≡ 0 → ⊥) → outcome m xs w ≡ stop (w .number) (w .place)
 outcome-stop m xs w h = rw (ne-eqb (w .number) 0 h)
 
 -- the state with another store
@@ -53,14 +53,14 @@ module _ (j : Job) (ws : List ℕ) (x : Spot) where
   told-absent h n = act-absent (planOf j ws n) (x .level) (x .va) (x .entry) h
 
   module _ (here : present (x .entry) ≡ true) (points : pointer (x .level) (x .entry) ≡ false)
-      (s : Shift) (says : saysOf s ≡ decide (deciding (regionOf (j .old)) (j .offset) (rangesOf ws)) (x .level) (x .va)) where
+      (s : Shift) (says : saysOf s ≡ decide (deciding (j .old) (j .offset) (rangesOf ws)) (x .level) (x .va)) where
     pub told-stay : s ≡ Stay → Told j ws x Skip
     told-stay q n = act-stay (planOf j ws n) (x .level) (x .va) (x .entry) here points (sym says ∙ ap saysOf q)
 
     pub told-by : (o : ℕ) → s ≡ By o → Told j ws x (Leaf o)
     unfolding act kind kindOf kindAct leafAct
     told-by o q n =
-        let d : decide (deciding (regionOf (j .old)) (j .offset) (rangesOf ws)) (x .level) (x .va) ≡ shift o = sym says ∙ ap saysOf q in
+        let d : decide (deciding (j .old) (j .offset) (rangesOf ws)) (x .level) (x .va) ≡ shift o = sym says ∙ ap saysOf q in
         rw (here, points, d)
 
 -- ---- a leaf that moves by o

@@ -11,17 +11,16 @@ use lib.ListN.{length}
 use borrow.Author.Tests.{leb-true, ltb-true}
 use Rattle.definitions.specs.Words.{Mem, Tables, put, mark}
 use Rattle.definitions.specs.Entry.{pointer, address, withAddress}
-use Rattle.definitions.specs.Inputs.{Region}
 use Rattle.definitions.specs.Ranges.{within, tableAt, usedTables, shifted, tableIn}
 use Rattle.definitions.specs.Step.{Step}
 use Rattle.definitions.specs.Pass1.{State, Act, follow, perform}
 use Rattle.definitions.proofs.Answers.{and-l, and-r}
 use Rattle.definitions.proofs.Fields.{address-is}
 use Rattle.definitions.proofs.Pass1.{act-free, act-follow, act-into-moved, act-outside, perform-again, perform-down}
+use Rattle.definitions.specs.declared.Region.{Region}
 use Rattle.moved.specs.View.{leavesOf}
 use Rattle.reached.specs.Held.{setOf}
 use Rattle.reached.specs.declared.Reached.{Reached}
-use Rattle.region.specs.Meaning.{regionOf}
 use Rattle.region.proofs.Laws.{in-table, in-no-table}
 use Rattle.pass1.specs.declared.Job.{Job}
 use Rattle.pass1.specs.declared.Walk.{Walk}
@@ -44,10 +43,10 @@ pointer-level zero e h = nay (ap (λ (z : Bool). cond z 1 0) h)
 pointer-level (suc l) e h = omega arith
 
 -- the moved table's address fits an entry
-pub to-fits : (j : Job) (x : Spot) (a to i : ℕ) → JobFits j → Points x a → tableIn (regionOf (j .old)) a ≡ some i
+pub to-fits : (j : Job) (x : Spot) (a to i : ℕ) → JobFits j → Points x a → tableIn (j .old) a ≡ some i
     → to ≡ (a + j .offset) % 2 ^ 64 → (to % 4096 ≡ 0) × (to < 2 ^ 52)
 to-fits j x a to i h q d t =
-    let b = bounds (regionOf (j .old)) a (in-table (regionOf (j .old)) a i d .0) in
+    let b = bounds (j .old) a (in-table (j .old) a i d .0) in
     let f = q .target in
     let p : address (x .entry) ≡ x .entry % 2 ^ 52 / 4096 * 4096 = address-is (x .entry) in
     let whole = h .whole in
@@ -63,9 +62,9 @@ module _ (j : Job) (x : Spot) (m : Mem) (w : Walk) (a : ℕ) (points : Points x 
       → perform (length xs / 3) down (x .level) (x .va) (x .at) (view m xs w) v ≡ performed j ws down x m xs w
   acts ws xs down e = sym (ap (perform (length xs / 3) down (x .level) (x .va) (x .at) (view m xs w)) e)
 
-  module _ (i : ℕ) (found : tableIn (regionOf (j .old)) a ≡ some i) where
-    inside : (within (regionOf (j .old)) (address (x .entry)) ≡ true) × (tableAt (regionOf (j .old)) (address (x .entry)) ≡ i)
-    inside = in-table (regionOf (j .old)) (address (x .entry)) i (ap (tableIn (regionOf (j .old))) (sym (points .target)) ∙ found)
+  module _ (i : ℕ) (found : tableIn (j .old) a ≡ some i) where
+    inside : (within (j .old) (address (x .entry)) ≡ true) × (tableAt (j .old) (address (x .entry)) ≡ i)
+    inside = in-table (j .old) (address (x .entry)) i (ap (tableIn (j .old)) (sym (points .target)) ∙ found)
 
     pub opens-free : j .old .used / 4096 ≤ i → (o : Opened) → (r : Walk) → r ≡ refusing w 9 (x .va) (x .level) 0 → o ≡ ended r → Opens j x m w m o
     unfolding perform usedTables
@@ -106,26 +105,26 @@ module _ (j : Job) (x : Spot) (m : Mem) (w : Walk) (a : ℕ) (points : Points x 
             fits = (omega arith, pointer-level (x .level) (x .entry) (points .points), runs);
           }
 
-  module _ (out : tableIn (regionOf (j .old)) a ≡ none) where
-    away : within (regionOf (j .old)) (address (x .entry)) ≡ false
-    away = in-no-table (regionOf (j .old)) (address (x .entry)) (ap (tableIn (regionOf (j .old))) (sym (points .target)) ∙ out)
+  module _ (out : tableIn (j .old) a ≡ none) where
+    away : within (j .old) (address (x .entry)) ≡ false
+    away = in-no-table (j .old) (address (x .entry)) (ap (tableIn (j .old)) (sym (points .target)) ∙ out)
 
-    pub opens-moved : (i : ℕ) → tableIn (regionOf (j .new)) a ≡ some i → (o : Opened) (r : Walk) → r ≡ refusing w 11 (x .va) (x .level) 0 → o ≡ ended r → Opens j x m w m o
+    pub opens-moved : (i : ℕ) → tableIn (j .new) a ≡ some i → (o : Opened) (r : Walk) → r ≡ refusing w 11 (x .va) (x .level) 0 → o ≡ ended r → Opens j x m w m o
     unfolding perform
     opens-moved i q o r e d =
         rw (d, e) (record {
           step = λ ws xs down. acts ws xs down (act-into-moved (planOf j ws (length xs)) (x .level) (x .va) (x .entry) (points .here) (points .points) away
-              (in-table (regionOf (j .new)) (address (x .entry)) i (ap (tableIn (regionOf (j .new))) (sym (points .target)) ∙ q) .0));
+              (in-table (j .new) (address (x .entry)) i (ap (tableIn (j .new)) (sym (points .target)) ∙ q) .0));
           store = refl;
           fits = tt;
         })
 
-    pub opens-outside : tableIn (regionOf (j .new)) a ≡ none → w .number ≡ 0 → (o : Opened) → o ≡ ended w → Opens j x m w m o
+    pub opens-outside : tableIn (j .new) a ≡ none → w .number ≡ 0 → (o : Opened) → o ≡ ended w → Opens j x m w m o
     unfolding perform
     opens-outside q runs o d =
         rw d (record {
           step = λ ws xs down. outcome-go m xs w runs ∙ acts ws xs down (act-outside (planOf j ws (length xs)) (x .level) (x .va) (x .entry) (points .here) (points .points) away
-              (in-no-table (regionOf (j .new)) (address (x .entry)) (ap (tableIn (regionOf (j .new))) (sym (points .target)) ∙ q)));
+              (in-no-table (j .new) (address (x .entry)) (ap (tableIn (j .new)) (sym (points .target)) ∙ q)));
           store = refl;
           fits = tt;
         })

@@ -11,7 +11,8 @@ use lib.ListN.{length}
 use Rattle.definitions.specs.Words.{Mem, Tables, slot, mark, noTables}
 use Rattle.definitions.specs.Geometry.{span}
 use Rattle.definitions.specs.Step.{Step, andThen, times}
-use Rattle.definitions.specs.Pass1.{Plan, Moved, State, Act, keep, moveAct, perform, visit, walkTable}
+use Rattle.definitions.specs.Pass1.{Plan, State, Act, keep, moveAct, perform, visit, walkTable}
+use Rattle.definitions.specs.declared.Moved.{Moved}
 use Rattle.moved.specs.View.{Held, Empty}
 use Rattle.moved.proofs.Leaves.{empty-leaves}
 use Rattle.reached.specs.Held.{setOf}

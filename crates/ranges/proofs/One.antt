@@ -4,8 +4,9 @@ use mathlib.Core.Path.{_≡_, refl, sym, _∙_}
 use mathlib.Core.Bool.{Bool}
 use mathlib.Core.List.{List}
 use Prim.Native.Nat.{ℕ}
-use Rattle.definitions.specs.Inputs.{Region, Range}
+use Rattle.definitions.specs.Inputs.{Range}
 use Rattle.definitions.specs.Ranges.{magnitude, decide}
+use Rattle.definitions.specs.declared.Region.{Region}
 use Rattle.ranges.specs.Lists.{validFor, saysOf}
 use Rattle.ranges.specs.declared.Shift.{Shift}
 use Rattle.ranges.specs.declared.Shift.the-variants.{By, Stay}

@@ -1,9 +1,9 @@
 // relocate IMAGE RANGES OUTPUT GPA SIZE CR3 CR4 OFFSET: moves the page tables of one file into another, and reports.
 use build::CpuPagingState;
-use build::Report;
+use definitions::Region;
+use definitions::Report;
 use libc::STDERR_FILENO;
 use libc::STDOUT_FILENO;
-use region::Region;
 use text::Number;
 
 // 512 tables; 1,024 ranges of 24 bytes; 131,072 moved leaves of three words.

@@ -1,10 +1,10 @@
 // Replays the Rust's recorded answers (data/vectors, made as data/README says) through the proved operations. A line is up to four
 // words in hexadecimal: what it is, and its numbers.
 use build::CpuPagingState;
+use definitions::Region;
 use entry::PageTableEntry;
 use entry::PageTableEntryType;
 use libc::STDOUT_FILENO;
-use region::Region;
 
 const IMAGE: usize = 0x8000;
 

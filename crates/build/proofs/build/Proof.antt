@@ -1,7 +1,6 @@
 use native.Mathlib.Omega.{arith}
 use Rattle.build.proofs.Calls.{image-fits, begun, refused-builds, accepted-builds}
 use Rattle.build.specs.Meaning.{Starts, Passes}
-use Rattle.region.specs.Meaning.{regionOf}
 use Rattle.definitions.proofs.Builds.{build-checks}
 use Rattle.definitions.specs.Build.{jobOf}
 use Rattle.definitions.specs.Words.{wordsOf}
@@ -29,7 +28,7 @@ unfolding jobOf
 copy-requires c κs =
     let a = c .before .before .before .before .before .before .before .before .before .args in
     let n = length (a .scratch .now) in
-    let j = jobOf (regionOf (a .r)) (a .cpu .cr3) (a .cpu .cr4) (a .table-offset) (a .ranges .now) (a .image .now) (length (a .out .now)) n in
+    let j = jobOf (a .r) (a .cpu .cr3) (a .cpu .cr4) (a .table-offset) (a .ranges .now) (a .image .now) (length (a .out .now)) n in
     let g = subst (Starts j) (c .before .before .start2 .given .1) (c .before .before .before .before .check-inputs .ensures n) in
     let h : length (a .image .now) ≤ length (a .out .now) = image-fits j (g .0) in
     omega arith
@@ -41,7 +40,7 @@ passes-requires : tie.Need-passes-requires
 passes-requires c κs =
     let a = c .before .before .before .before .before .before .before .before .before .before .before .before .before .before .before .before .before .before .args in
     let n = length (a .scratch .now) in
-    let j = jobOf (regionOf (a .r)) (a .cpu .cr3) (a .cpu .cr4) (a .table-offset) (a .ranges .now) (a .image .now) (length (a .out .now)) n in
+    let j = jobOf (a .r) (a .cpu .cr3) (a .cpu .cr4) (a .table-offset) (a .ranges .now) (a .image .now) (length (a .out .now)) n in
     let g = subst (Starts j) (c .before .before .before .before .before .before .before .before .before .before .before .start2 .given .1) (c .before .before .before .before .before .before .before .before .before .before .before .before .before .check-inputs .ensures n) in
     let ready = begun (a .r) (a .cpu .cr3) (a .cpu .cr4) (a .table-offset) (a .ranges .now) (a .image .now) (a .out .now) (a .scratch .now) (g .0) _ (g .1) _ _ (c .before .before .before .before .before .before .before .before .copy .ensures) (c .before .before .before .before .clear .ensures) in
     (j, ready)
@@ -69,7 +68,7 @@ unfolding jobOf
 returns c =
     let a = c .before .before .before .before .before .before .before .before .before .before .before .before .before .before .before .args in
     let n = length (a .scratch .now) in
-    let j = jobOf (regionOf (a .r)) (a .cpu .cr3) (a .cpu .cr4) (a .table-offset) (a .ranges .now) (a .image .now) (length (a .out .now)) n in
+    let j = jobOf (a .r) (a .cpu .cr3) (a .cpu .cr4) (a .table-offset) (a .ranges .now) (a .image .now) (length (a .out .now)) n in
     refused-builds j n _ _ _ _ _ _ _ (build-checks j _ _ (subst (Starts j) (c .before .before .before .before .before .before .before .before .start .given .1) (c .before .before .before .before .before .before .before .before .before .before .check-inputs .ensures n))) (c .before .before .before .before .refuse .ensures) refl refl
 
 same-length-3 : tie.Need-same-length-3
@@ -83,7 +82,7 @@ unfolding jobOf
 returns-2 c =
     let a = c .before .before .before .before .before .before .before .before .before .before .before .before .before .before .before .before .before .before .before .before .before .before .before .before .before .before .before .before .before .before .before .before .before .args in
     let n = length (a .scratch .now) in
-    let j = jobOf (regionOf (a .r)) (a .cpu .cr3) (a .cpu .cr4) (a .table-offset) (a .ranges .now) (a .image .now) (length (a .out .now)) n in
+    let j = jobOf (a .r) (a .cpu .cr3) (a .cpu .cr4) (a .table-offset) (a .ranges .now) (a .image .now) (length (a .out .now)) n in
     let g = subst (Starts j) (c .before .before .before .before .before .before .before .before .before .before .before .before .before .before .before .before .before .before .before .before .before .before .before .before .before .before .start2 .given .1) (c .before .before .before .before .before .before .before .before .before .before .before .before .before .before .before .before .before .before .before .before .before .before .before .before .before .before .before .before .check-inputs .ensures n) in
     let ready = begun (a .r) (a .cpu .cr3) (a .cpu .cr4) (a .table-offset) (a .ranges .now) (a .image .now) (a .out .now) (a .scratch .now) (g .0) _ (g .1) _ _ (c .before .before .before .before .before .before .before .before .before .before .before .before .before .before .before .before .before .before .before .before .before .before .before .copy .ensures) (c .before .before .before .before .before .before .before .before .before .before .before .before .before .before .before .before .before .before .before .clear .ensures) in
     let e = subst (Passes j (wordsOf (c .before .before .before .before .before .before .before .before .before .before .before .before .before .before .passes .last .0))) (c .before .before .before .before .before .before .before .before .ended .given .1) (c .before .before .before .before .before .before .before .before .before .before .before .before .before .before .passes .ensures j ready) in
@@ -101,7 +100,7 @@ unfolding jobOf
 returns-3 c =
     let a = c .before .before .before .before .before .before .before .before .before .before .before .before .before .before .before .before .before .before .before .before .before .before .before .before .before .before .before .before .before .before .args in
     let n = length (a .scratch .now) in
-    let j = jobOf (regionOf (a .r)) (a .cpu .cr3) (a .cpu .cr4) (a .table-offset) (a .ranges .now) (a .image .now) (length (a .out .now)) n in
+    let j = jobOf (a .r) (a .cpu .cr3) (a .cpu .cr4) (a .table-offset) (a .ranges .now) (a .image .now) (length (a .out .now)) n in
     let g = subst (Starts j) (c .before .before .before .before .before .before .before .before .before .before .before .before .before .before .before .before .before .before .before .before .before .before .before .start2 .given .1) (c .before .before .before .before .before .before .before .before .before .before .before .before .before .before .before .before .before .before .before .before .before .before .before .before .before .check-inputs .ensures n) in
     let ready = begun (a .r) (a .cpu .cr3) (a .cpu .cr4) (a .table-offset) (a .ranges .now) (a .image .now) (a .out .now) (a .scratch .now) (g .0) _ (g .1) _ _ (c .before .before .before .before .before .before .before .before .before .before .before .before .before .before .before .before .before .before .before .before .copy .ensures) (c .before .before .before .before .before .before .before .before .before .before .before .before .before .before .before .before .clear .ensures) in
     let e = subst (Passes j (wordsOf (c .before .before .before .before .before .before .before .before .before .before .before .passes .last .0))) (c .before .before .before .before .before .ended2 .given .1) (c .before .before .before .before .before .before .before .before .before .before .before .passes .ensures j ready) in

@@ -1,10 +1,11 @@
 use Rattle.region.proofs.Laws.{in-table, in-no-table}
-use Rattle.region.specs.Meaning.{regionOf, indexOf}
+use Rattle.region.specs.Meaning.{indexOf}
 use Rattle.definitions.proofs.Checks.{start-region, start-image, start-output, start-levels, start-root, start-offset, start-ranges, start-free, start-good}
 use Rattle.definitions.specs.Build.{geometryOf, root, jobOf}
 use Rattle.definitions.specs.Step.{stop}
 use Rattle.definitions.specs.Ranges.{usedTables}
 use Rattle.definitions.specs.Inputs as I
+use Rattle.definitions.specs.declared.Place.{Place}
 use borrow.Author.Tests.{not-true, not-false}
 use mathlib.Core.Path.{sym, ap, _∙_}
 use borrow.Author.Needs.{needs}
@@ -22,7 +23,7 @@ unfolding jobOf geometryOf
 returns c =
     λ n.
     let a = c .before .before .before .before .before .args in
-    let j = jobOf (regionOf (a .r)) (a .cpu .cr3) (a .cpu .cr4) (a .offset) (a .ranges .now) (a .image .now) (a .extent) n in
+    let j = jobOf (a .r) (a .cpu .cr3) (a .cpu .cr4) (a .offset) (a .ranges .now) (a .image .now) (a .extent) n in
     start-region j (sym (c .before .valid .ensures) ∙ not-true _ (c .if1 .taken)) ∙ ap (stop 1) (sym (c .before .before .nowhere .ensures))
 
 returns-2 : tie.Need-returns-2
@@ -30,7 +31,7 @@ unfolding jobOf geometryOf
 returns-2 c =
     λ n.
     let a = c .before .before .before .before .before .before .before .args in
-    let j = jobOf (regionOf (a .r)) (a .cpu .cr3) (a .cpu .cr4) (a .offset) (a .ranges .now) (a .image .now) (a .extent) n in
+    let j = jobOf (a .r) (a .cpu .cr3) (a .cpu .cr4) (a .offset) (a .ranges .now) (a .image .now) (a .extent) n in
     start-image j (sym (c .before .before .before .valid .ensures) ∙ not-false _ (c .before .before .if1 .left)) (c .if2 .taken) ∙ ap (stop 4) (sym (c .before .before .before .before .nowhere .ensures))
 
 returns-3 : tie.Need-returns-3
@@ -38,7 +39,7 @@ unfolding jobOf geometryOf
 returns-3 c =
     λ n.
     let a = c .before .before .before .before .before .before .before .before .before .args in
-    let j = jobOf (regionOf (a .r)) (a .cpu .cr3) (a .cpu .cr4) (a .offset) (a .ranges .now) (a .image .now) (a .extent) n in
+    let j = jobOf (a .r) (a .cpu .cr3) (a .cpu .cr4) (a .offset) (a .ranges .now) (a .image .now) (a .extent) n in
     start-output j (sym (c .before .before .before .before .before .valid .ensures) ∙ not-false _ (c .before .before .before .before .if1 .left)) (c .before .before .if2 .left) (c .if3 .taken) ∙ ap (stop 4) (sym (c .before .before .before .before .before .before .nowhere .ensures))
 
 returns-4 : tie.Need-returns-4
@@ -46,7 +47,7 @@ unfolding jobOf geometryOf
 returns-4 c =
     λ n.
     let a = c .before .before .before .before .before .before .before .before .before .before .before .args in
-    let j = jobOf (regionOf (a .r)) (a .cpu .cr3) (a .cpu .cr4) (a .offset) (a .ranges .now) (a .image .now) (a .extent) n in
+    let j = jobOf (a .r) (a .cpu .cr3) (a .cpu .cr4) (a .offset) (a .ranges .now) (a .image .now) (a .extent) n in
     start-levels j (sym (c .before .before .before .before .before .before .before .valid .ensures) ∙ not-false _ (c .before .before .before .before .before .before .if1 .left)) (c .before .before .before .before .if2 .left) (c .before .before .if3 .left) (c .if4 .taken) ∙ ap (stop 5) (sym (c .before .before .before .before .before .before .before .before .nowhere .ensures))
 
 calculate-page-table-index-requires : tie.Need-calculate-page-table-index-requires
@@ -63,8 +64,8 @@ unfolding jobOf geometryOf
 returns-5 c =
     λ n.
     let a = c .before .before .before .before .before .before .before .before .before .before .before .before .before .before .args in
-    let j = jobOf (regionOf (a .r)) (a .cpu .cr3) (a .cpu .cr4) (a .offset) (a .ranges .now) (a .image .now) (a .extent) n in
-    start-root j (sym (c .before .before .before .before .before .before .before .before .before .before .valid .ensures) ∙ not-false _ (c .before .before .before .before .before .before .before .before .before .if1 .left)) (c .before .before .before .before .before .before .before .if2 .left) (c .before .before .before .before .before .if3 .left) (c .before .before .before .if4 .left) (in-no-table (regionOf (a .r)) (a .cpu .cr3) (sym (c .before .before .calculate-page-table-index .ensures) ∙ ap indexOf (c .enum-told .given .1))) ∙ ap (stop 6) (sym (c .before .before .before .before .before .before .before .before .before .before .before .nowhere .ensures))
+    let j = jobOf (a .r) (a .cpu .cr3) (a .cpu .cr4) (a .offset) (a .ranges .now) (a .image .now) (a .extent) n in
+    start-root j (sym (c .before .before .before .before .before .before .before .before .before .before .valid .ensures) ∙ not-false _ (c .before .before .before .before .before .before .before .before .before .if1 .left)) (c .before .before .before .before .before .before .before .if2 .left) (c .before .before .before .before .before .if3 .left) (c .before .before .before .if4 .left) (in-no-table (a .r) (a .cpu .cr3) (sym (c .before .before .calculate-page-table-index .ensures) ∙ ap indexOf (c .enum-told .given .1))) ∙ ap (stop 6) (sym (c .before .before .before .before .before .before .before .before .before .before .before .nowhere .ensures))
 
 offset-valid-requires : tie.Need-offset-valid-requires
 offset-valid-requires c κs = search needs
@@ -74,8 +75,8 @@ unfolding jobOf geometryOf
 returns-6 c =
     λ n.
     let a = c .before .before .before .before .before .before .before .before .before .before .before .before .before .before .before .before .before .args in
-    let j = jobOf (regionOf (a .r)) (a .cpu .cr3) (a .cpu .cr4) (a .offset) (a .ranges .now) (a .image .now) (a .extent) n in
-    let at = in-table (regionOf (a .r)) (a .cpu .cr3) _ (sym (c .before .before .before .before .before .calculate-page-table-index .ensures) ∙ ap indexOf (c .before .before .before .found .given .1)) in
+    let j = jobOf (a .r) (a .cpu .cr3) (a .cpu .cr4) (a .offset) (a .ranges .now) (a .image .now) (a .extent) n in
+    let at = in-table (a .r) (a .cpu .cr3) _ (sym (c .before .before .before .before .before .calculate-page-table-index .ensures) ∙ ap indexOf (c .before .before .before .found .given .1)) in
     start-offset j (sym (c .before .before .before .before .before .before .before .before .before .before .before .before .before .valid .ensures) ∙ not-false _ (c .before .before .before .before .before .before .before .before .before .before .before .before .if1 .left)) (c .before .before .before .before .before .before .before .before .before .before .if2 .left) (c .before .before .before .before .before .before .before .before .if3 .left) (c .before .before .before .before .before .before .if4 .left) (at .0) (sym (c .before .offset-valid .ensures) ∙ not-true _ (c .if5 .taken)) ∙ ap (stop 7) (sym (c .before .before .before .before .before .before .before .before .before .before .before .before .before .before .nowhere .ensures))
 
 list-valid-requires : tie.Need-list-valid-requires
@@ -86,8 +87,8 @@ unfolding jobOf geometryOf
 returns-7 c =
     λ n.
     let a = c .before .before .before .before .before .before .before .before .before .before .before .before .before .before .before .before .before .before .before .args in
-    let j = jobOf (regionOf (a .r)) (a .cpu .cr3) (a .cpu .cr4) (a .offset) (a .ranges .now) (a .image .now) (a .extent) n in
-    let at = in-table (regionOf (a .r)) (a .cpu .cr3) _ (sym (c .before .before .before .before .before .before .before .calculate-page-table-index .ensures) ∙ ap indexOf (c .before .before .before .before .before .found .given .1)) in
+    let j = jobOf (a .r) (a .cpu .cr3) (a .cpu .cr4) (a .offset) (a .ranges .now) (a .image .now) (a .extent) n in
+    let at = in-table (a .r) (a .cpu .cr3) _ (sym (c .before .before .before .before .before .before .before .calculate-page-table-index .ensures) ∙ ap indexOf (c .before .before .before .before .before .found .given .1)) in
     start-ranges j (sym (c .before .before .before .before .before .before .before .before .before .before .before .before .before .before .before .valid .ensures) ∙ not-false _ (c .before .before .before .before .before .before .before .before .before .before .before .before .before .before .if1 .left)) (c .before .before .before .before .before .before .before .before .before .before .before .before .if2 .left) (c .before .before .before .before .before .before .before .before .before .before .if3 .left) (c .before .before .before .before .before .before .before .before .if4 .left) (at .0) (sym (c .before .before .before .offset-valid .ensures) ∙ not-false _ (c .before .before .if5 .left)) (sym (c .before .list-valid .ensures) ∙ not-true _ (c .if6 .taken)) ∙ ap (stop 8) (sym (c .before .before .before .before .before .before .before .before .before .before .before .before .before .before .before .before .nowhere .ensures))
 
 returns-8 : tie.Need-returns-8
@@ -95,17 +96,17 @@ unfolding jobOf geometryOf usedTables root
 returns-8 c =
     λ n.
     let a = c .before .before .before .before .before .before .before .before .before .before .before .before .before .before .before .before .before .before .before .before .before .args in
-    let j = jobOf (regionOf (a .r)) (a .cpu .cr3) (a .cpu .cr4) (a .offset) (a .ranges .now) (a .image .now) (a .extent) n in
-    let at = in-table (regionOf (a .r)) (a .cpu .cr3) _ (sym (c .before .before .before .before .before .before .before .before .before .calculate-page-table-index .ensures) ∙ ap indexOf (c .before .before .before .before .before .before .before .found .given .1)) in
-    start-free j (sym (c .before .before .before .before .before .before .before .before .before .before .before .before .before .before .before .before .before .valid .ensures) ∙ not-false _ (c .before .before .before .before .before .before .before .before .before .before .before .before .before .before .before .before .if1 .left)) (c .before .before .before .before .before .before .before .before .before .before .before .before .before .before .if2 .left) (c .before .before .before .before .before .before .before .before .before .before .before .before .if3 .left) (c .before .before .before .before .before .before .before .before .before .before .if4 .left) (at .0) (sym (c .before .before .before .before .before .offset-valid .ensures) ∙ not-false _ (c .before .before .before .before .if5 .left)) (sym (c .before .before .before .list-valid .ensures) ∙ not-false _ (c .before .before .if6 .left)) (rw (at .1) (c .if7 .taken)) ∙ ap (λ (p : I.Place). stop 9 (record { address = p .address; level = 4; offset = p .offset })) (sym (c .before .before .before .before .before .before .before .before .before .before .before .before .before .before .before .before .before .before .nowhere .ensures))
+    let j = jobOf (a .r) (a .cpu .cr3) (a .cpu .cr4) (a .offset) (a .ranges .now) (a .image .now) (a .extent) n in
+    let at = in-table (a .r) (a .cpu .cr3) _ (sym (c .before .before .before .before .before .before .before .before .before .calculate-page-table-index .ensures) ∙ ap indexOf (c .before .before .before .before .before .before .before .found .given .1)) in
+    start-free j (sym (c .before .before .before .before .before .before .before .before .before .before .before .before .before .before .before .before .before .valid .ensures) ∙ not-false _ (c .before .before .before .before .before .before .before .before .before .before .before .before .before .before .before .before .if1 .left)) (c .before .before .before .before .before .before .before .before .before .before .before .before .before .before .if2 .left) (c .before .before .before .before .before .before .before .before .before .before .before .before .if3 .left) (c .before .before .before .before .before .before .before .before .before .before .if4 .left) (at .0) (sym (c .before .before .before .before .before .offset-valid .ensures) ∙ not-false _ (c .before .before .before .before .if5 .left)) (sym (c .before .before .before .list-valid .ensures) ∙ not-false _ (c .before .before .if6 .left)) (rw (at .1) (c .if7 .taken)) ∙ ap (λ (p : Place). stop 9 (record { address = p .address; level = 4; offset = p .offset })) (sym (c .before .before .before .before .before .before .before .before .before .before .before .before .before .before .before .before .before .before .nowhere .ensures))
 
 returns-9 : tie.Need-returns-9
 unfolding jobOf geometryOf usedTables root
 returns-9 c =
     λ n.
     let a = c .before .before .before .before .before .before .before .before .before .before .before .before .before .before .before .before .before .before .before .before .before .args in
-    let j = jobOf (regionOf (a .r)) (a .cpu .cr3) (a .cpu .cr4) (a .offset) (a .ranges .now) (a .image .now) (a .extent) n in
-    let at = in-table (regionOf (a .r)) (a .cpu .cr3) _ (sym (c .before .before .before .before .before .before .before .before .before .calculate-page-table-index .ensures) ∙ ap indexOf (c .before .before .before .before .before .before .before .found .given .1)) in
+    let j = jobOf (a .r) (a .cpu .cr3) (a .cpu .cr4) (a .offset) (a .ranges .now) (a .image .now) (a .extent) n in
+    let at = in-table (a .r) (a .cpu .cr3) _ (sym (c .before .before .before .before .before .before .before .before .before .calculate-page-table-index .ensures) ∙ ap indexOf (c .before .before .before .before .before .before .before .found .given .1)) in
     (start-good j (sym (c .before .before .before .before .before .before .before .before .before .before .before .before .before .before .before .before .before .valid .ensures) ∙ not-false _ (c .before .before .before .before .before .before .before .before .before .before .before .before .before .before .before .before .if1 .left)) (c .before .before .before .before .before .before .before .before .before .before .before .before .before .before .if2 .left) (c .before .before .before .before .before .before .before .before .before .before .before .before .if3 .left) (c .before .before .before .before .before .before .before .before .before .before .if4 .left) (at .0) (sym (c .before .before .before .before .before .offset-valid .ensures) ∙ not-false _ (c .before .before .before .before .if5 .left)) (sym (c .before .before .before .list-valid .ensures) ∙ not-false _ (c .before .before .if6 .left)) (rw (at .1) (c .if7 .left)), sym (at .1))
 
 pub check-inputs-spec : {M : Type 1} → statement M

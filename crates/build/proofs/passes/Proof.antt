@@ -57,7 +57,7 @@ same-length-4 c = search needs
 returns-2 : tie.Need-returns-2
 returns-2 c =
     let a = c .before .before .before .before .before .before .before .before .before .before .before .before .before .before .before .before .before .before .before .before .before .before .before .before .before .args in
-    λ j ready. ends-second j (a .r) (a .offset) (a .ranges .now) (a .root) (a .out .now) (a .scratch .now) ready (c .before .before .before .before .before .before .before .before .before .before .before .before .before .before .before .before .before .before .before .before .before .moved-by .result) (c .before .before .before .before .before .before .before .before .before .before .before .before .before .before .before .before .before .before .before .before .before .moved-by .ensures) _ _ _ (c .before .before .before .before .before .before .before .before .before .before .before .before .before .before .before .before .before .before .first-pass .ensures) (c .before .before .before .before .before .before .before .before .before .before .before .before .if1 .left) (c .before .before .before .before .before .before .before .before .before .before .before .before .before .before .before .before .before .before .first-pass .last .0) (c .before .before .before .before .before .before .before .second-pass .last .0) refl _ (c .before .before .before .before .before .before .before .second-pass .ensures) _ _ _ (c .before .filled .given .1)
+    λ j ready. ends-second j (a .r) (a .offset) (a .ranges .now) (a .root) (a .out .now) (a .scratch .now) ready (c .before .before .before .before .before .before .before .before .before .before .before .before .before .before .before .before .before .before .before .before .before .moved-by .result) (c .before .before .before .before .before .before .before .before .before .before .before .before .before .before .before .before .before .before .before .before .before .moved-by .ensures) _ _ _ (c .before .before .before .before .before .before .before .before .before .before .before .before .before .before .before .before .before .before .first-pass .ensures) (c .before .before .before .before .before .before .before .before .before .before .before .before .if1 .left) (c .before .before .before .before .before .before .before .before .before .before .before .before .before .before .before .before .before .before .first-pass .last .0) (c .before .before .before .before .before .before .before .second-pass .last .0) refl _ (c .before .before .before .before .before .before .before .second-pass .ensures) _ _ (c .before .filled .given .1)
 
 same-length-5 : tie.Need-same-length-5
 same-length-5 c = search needs
