@@ -10,17 +10,18 @@ use lib.ListN.{length, replicate}
 use lib.Seq.{paste}
 use Rattle.definitions.specs.Words.{Mem, clearedFrom, wordsOf, bytesOf, noTables, mark, count}
 use Rattle.definitions.specs.Inputs as I
+use Rattle.definitions.specs.Geometry.{four}
 use Rattle.definitions.specs.Ranges.{regionOk, usedTables, shifted, movedRegion, offsetOk, listOk, rangesOf, rangesOk, deciding}
 use Rattle.definitions.specs.Step.{go}
 use Rattle.definitions.specs.Pass1.{walkTable}
 use Rattle.definitions.specs.Build.{geometryOf, geometry, planOf, root, firstPass, secondPass, accepted, refused, build, jobOf, outputBytes}
 use Rattle.definitions.proofs.Answers.{both}
 use Rattle.definitions.proofs.Words.{Bytes, bytes-words, words-padded}
-use Rattle.definitions.proofs.Regions.{Aligned, region-aligned, offset-aligned}
-use Rattle.definitions.proofs.Steps.{After}
-use Rattle.definitions.proofs.Low.{Low, low-first}
+use Rattle.definitions.proofs.Ranges.{SoundRegion, region-sound, offset-sound}
+use Rattle.definitions.proofs.Step.{After}
+use Rattle.definitions.proofs.LeafLevels.{Low, low-first}
 use Rattle.definitions.proofs.Checks.{Good, startState}
-use Rattle.definitions.proofs.Builds.{build-first, build-second, build-accepted, output-refused}
+use Rattle.definitions.proofs.Build.{build-first, build-second, build-accepted, output-refused}
 use Rattle.definitions.specs.declared.Place.{Place}
 use Rattle.definitions.specs.declared.Region.{Region}
 use Rattle.definitions.specs.declared.Report.{Report}
@@ -51,14 +52,14 @@ module _ (j : I.Job) (r : Region) (o : ℕ) (ws : List ℕ) (t : ℕ) (out xs : 
     (new : Region) (moves : new ≡ movedRegion r o) where
   -- ---- what the checks say in numbers
 
-  aligned : Aligned (2 ^ 48) r
+  aligned : SoundRegion (2 ^ 48) r
   unfolding geometryOf
-  aligned = region-aligned (2 ^ 48) r (subst (λ (z : Region). regionOk (2 ^ 48) z ≡ true) (ready .region) (ready .good .region))
+  aligned = region-sound (2 ^ 48) r (subst (λ (z : Region). regionOk (2 ^ 48) z ≡ true) (ready .region) (ready .good .region))
 
   shifts : (o % 4096 ≡ 0) × (shifted (r .gpa) o + r .size ≤ 2 ^ 48)
   unfolding geometryOf
   shifts =
-      offset-aligned (2 ^ 48) r o
+      offset-sound (2 ^ 48) r o
       (sym (ap₂ (λ (z : Region) (k : ℕ). offsetOk (2 ^ 48) z k) (ready .region) (ready .offset)) ∙ ready .good .offset)
 
   valid : validFor r ws ≡ true
@@ -98,7 +99,7 @@ module _ (j : I.Job) (r : Region) (o : ℕ) (ws : List ℕ) (t : ℕ) (out xs : 
   plan-is : P.planOf (jobWith r new o) ws (length xs) ≡ planOf j
   unfolding planOf geometryOf
   plan-is i = record {
-    limit = 2 ^ 48;
+    geometry = four;
     old = sym (ready .region) i;
     new = (moves ∙ sym (ap₂ movedRegion (ready .region) (ready .offset))) i;
     tableOffset = sym (ready .offset) i;
@@ -182,7 +183,7 @@ module _ (j : I.Job) (r : Region) (o : ℕ) (ws : List ℕ) (t : ℕ) (out xs : 
 -- ---- the call of build
 
 pub image-fits : (j : I.Job) → Good j → j .imageLength ≤ j .outputLength
-image-fits j g = let a = region-aligned (geometry j .limit) (j .region) (g .region) in omega (arith, a .fits, g .image, g .output)
+image-fits j g = let a = region-sound (geometry j .limit) (j .region) (g .region) in omega (arith, a .fits, g .image, g .output)
 
 -- the output holds the image and then zeros
 module _ (r : Region) (cr3 cr4 o : ℕ) (ws image out xs : List ℕ) (good : Good (jobOf r cr3 cr4 o ws image (length out) (length xs))) where

@@ -13,7 +13,7 @@ use Rattle.definitions.specs.Walk.{walk}
 use Rattle.definitions.specs.Demand.{Proper, after, Rebuilt}
 use Rattle.definitions.specs.Conditions.{Exact}
 use Rattle.definitions.proofs.Words.{Bytes}
-use Rattle.definitions.proofs.Jobs.{job-proper}
+use Rattle.definitions.proofs.Build.{job-proper}
 use Rattle.definitions.specs.declared.Region.{Region}
 use Rattle.definitions.specs.declared.Report.{Report}
 use Rattle.demands.proofs.Main.{rebuilt}

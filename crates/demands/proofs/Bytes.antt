@@ -15,9 +15,9 @@ use Rattle.definitions.specs.Pass1.{Act, keep, move, follow, refuse}
 use Rattle.definitions.specs.Build.{geometry, height, root, planOf, build, outputBytes}
 use Rattle.definitions.specs.Walk.{walk}
 use Rattle.definitions.specs.Demand.{Proper, after, entryBefore, actAt, remains}
-use Rattle.definitions.proofs.Fields.{address-word, leaf-word}
+use Rattle.definitions.proofs.Entry.{address-word, leaf-word}
 use Rattle.definitions.proofs.Splits.{onBool}
-use Rattle.definitions.proofs.Regions.{region-aligned}
+use Rattle.definitions.proofs.Ranges.{region-sound}
 use Rattle.definitions.proofs.Acts.{Means, act-means}
 use Rattle.definitions.proofs.Buffers.{words-bytes}
 use Rattle.definitions.specs.declared.Moved.{Moved}
@@ -73,7 +73,7 @@ module _ (j : Job) (proper : Proper j) (R : Ran j (build j)) where
   past : (k : ℕ) → j .outputLength < 8 * k + 8 → R .f .mem k ≡ 0
   unfolding allTables
   past k h =
-      let a = region-aligned (geometry j .limit) (j .region) (R .good .region) in
+      let a = region-sound (geometry j .limit) (j .region) (R .good .region) in
       R .filled .good .free k (omega (arith, R .good .output, a .size, plan-is j .size, R .filled .fits (used-fits j proper (R .good) (R .s) (R .fixed))))
 
 pub output-words : (j : Job) → Proper j → build j .report .number ≡ 0 → wordsOf (outputBytes j) ≡ build j .output

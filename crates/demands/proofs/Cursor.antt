@@ -8,7 +8,7 @@ use native.Mathlib.Omega.{arith}
 use Rattle.definitions.specs.Words.{Tables, put}
 use Rattle.definitions.specs.Geometry.{span}
 use Rattle.definitions.specs.Order.{Earlier}
-use Rattle.definitions.proofs.Splits.{onBool, onEq}
+use Rattle.definitions.proofs.Splits.{onBool, onEq, impossible}
 use Rattle.definitions.proofs.Puts.{put-same, put-other}
 use Rattle.demands.proofs.Sequence.{earlier-trans, earlier-under, earlier-next, from-mono, table-end, entry-end}
 use Rattle.demands.proofs.Walks.{Map}
@@ -73,7 +73,7 @@ module _ (R : Tables) (P : Map) (c : ℕ → ℕ) (t l i : ℕ) (a : At R P t l 
       back t₁ l₁ i₁ n a₁ = record { seen = sym (put-other R t′ true t₁ n) ∙ a₁ .seen; height = sym (put-other (P .ht) t′ l t₁ n) ∙ a₁ .height; low = a₁ .low }
 
       other : ¬ (t ≡ t′)
-      other w = let z : _≡_ {A = ℕ} 0 1 = cc (ap R w, a .seen) in omega arith
+      other w = impossible (cc (ap R w, a .seen))
 
       level-under : (t₁ l₁ i₁ : ℕ) → t₁ ≡ t′ → At R′ P′ t₁ l₁ i₁ → l ≡ suc l₁
       level-under t₁ l₁ i₁ w a₁ = sym (put-same (P .ht) t′ l t₁ w) ∙ a₁ .height

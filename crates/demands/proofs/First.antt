@@ -21,10 +21,10 @@ use Rattle.definitions.specs.Conditions.{BadEntry, inTail, intoMoved, notWhole,
 use Rattle.definitions.specs.Conditions.{BadTables, BadPlaces, onLeaf, inSpan, onPast, onTable, onOther, noRoom}
 use Rattle.definitions.specs.Order as O
 use Rattle.definitions.specs.Order.{Earlier, refused, toRoot, toSame, taken, full, FirstBad, InOrder}
-use Rattle.definitions.proofs.Splits.{onEq}
-use Rattle.definitions.proofs.Levels.{span-pos}
+use Rattle.definitions.proofs.Splits.{onEq, impossible}
+use Rattle.definitions.proofs.Geometry.{span-pos}
 use Rattle.definitions.proofs.Leaves.{ascending-distinct}
-use Rattle.definitions.proofs.Refusals.{refuse-iff}
+use Rattle.definitions.proofs.Conditions.{refuse-iff}
 use Rattle.definitions.proofs.Checks.{Good, Starts, start-says}
 use Rattle.demands.proofs.Lists.{within-length}
 use Rattle.demands.proofs.Walks.{Map}
@@ -149,8 +149,8 @@ module _ (W : Paging) (K : Passing W) (S : Sound W K) where
       where
         turn : (a : Act) → act l₁ (p₁ * 512 + i₁) (m₀ (512 * t₁ + i₁)) ≡ a
             → V1.Done W K S s P l₁ (p₁ * 512 + i₁) a (m₀ (512 * t₁ + i₁)) (s .mem (512 * t₁ + i₁)) → Seen s P c all t′ l₁ p′
-        turn keep ea d = let z : _≡_ {A = ℕ} 0 1 = cc (V1.said W K S l₁ _ _ _ ea .0) in absurd (omega arith)
-        turn (move x) ea d = let z : _≡_ {A = ℕ} 0 1 = cc (V1.said W K S l₁ _ _ _ ea .0) in absurd (omega arith)
+        turn keep ea d = impossible (cc (V1.said W K S l₁ _ _ _ ea .0))
+        turn (move x) ea d = impossible (cc (V1.said W K S l₁ _ _ _ ea .0))
         turn (follow t₂ v) ea d = let same : t₂ ≡ t′ = cc (V1.said W K S l₁ _ _ _ ea .0) in rw (← same) (d .1, d .2, d .3 ∙ sym ep)
         turn (refuse n q) ea d = absurd d
 

@@ -9,7 +9,7 @@ use native.Mathlib.Omega.{arith}
 use Rattle.definitions.specs.Geometry.{span}
 use Rattle.definitions.specs.Order.{Earlier}
 use Rattle.definitions.proofs.Splits.{onEq}
-use Rattle.definitions.proofs.Levels.{span-suc, span-pos}
+use Rattle.definitions.proofs.Geometry.{span-suc, span-pos}
 
 pub earlier-trans : (l p l₁ p₁ l₂ p₂ : ℕ) → Earlier l p l₁ p₁ → Earlier l₁ p₁ l₂ p₂ → Earlier l p l₂ p₂
 earlier-trans l p l₁ p₁ l₂ p₂ a b =

@@ -13,11 +13,11 @@ use Rattle.definitions.specs.Pass1.{refuse, act}
 use Rattle.definitions.specs.Build.{geometry, height, planOf}
 use Rattle.definitions.specs.Demand.{Proper, Reached, stopBefore, entryBefore, fate, Moves, MovedBy}
 use Rattle.definitions.specs.Conditions.{BadEntry, inTail, intoMoved, notWhole, tooFar, BadTables, bad, again, twice, taken, crowded, BadPlaces, onLeaf, inSpan, onPast, onTable, onOther, noRoom, Refusal, TooFar}
-use Rattle.definitions.proofs.Levels.{span-pos, part-step, part-first, part-below}
+use Rattle.definitions.proofs.Geometry.{span-pos, part-step, part-first, part-below}
 use Rattle.definitions.proofs.Acts.{MovesAs, act-means}
-use Rattle.definitions.proofs.Refusals.{refuse-iff}
-use Rattle.definitions.proofs.Offsets.{deciding-offsets, decide-offset, target-shifted, past-iff}
-use Rattle.definitions.proofs.Checks.{bad-input-number, limit-field, walked-word}
+use Rattle.definitions.proofs.Conditions.{refuse-iff}
+use Rattle.definitions.proofs.Offset.{deciding-offsets, decide-offset, target-shifted, past-iff}
+use Rattle.definitions.proofs.Checks.{bad-input-number, geometry-sound}
 use Rattle.definitions.specs.declared.Moved.{Moved}
 use Rattle.definitions.specs.declared.Place.{Place}
 use Rattle.demands.proofs.Visit.{way-part}
@@ -37,8 +37,8 @@ module _ (j : Job) (proper : Proper j) where
   moved-by b x m =
       let l = stopBefore j b .level in
       let a : MovesAs (planOf j) l (part l b * span l) (entryBefore j b) x = rw (m .moves) at (act-means (planOf j) l (part l b * span l) (entryBefore j b)) in
-      let lo : part l b * span l < 2 ^ 63 = omega (arith, part-le l b, m .walked, walked-word j) in
-      let hi : shifted (part l b * span l) (a .offset) < 2 ^ 63 = omega (arith, a .fits, plan-is j .limit, limit-field j, span-pos l) in
+      let lo : part l b * span l < 2 ^ 63 = omega (arith, part-le l b, m .walked, geometry-sound (j .cr4) .word) in
+      let hi : shifted (part l b * span l) (a .offset) < 2 ^ 63 = omega (arith, a .fits, plan-is j .limit, geometry-sound (j .cr4) .field, span-pos l) in
       record {
         offset = a .offset;
         decided = rw (a .level) (a .decided);
@@ -48,13 +48,13 @@ module _ (j : Job) (proper : Proper j) where
   -- ---- number 13
 
   far-iff : (t l p i o : ℕ) → i < 512 → Reached j t (suc l) p → decide (planOf j .ranges) l ((p * 512 + i) * span l) ≡ shift o
-      → (planOf j .limit < shifted ((p * 512 + i) * span l) o + span l) ↔ (¬ Fits (geometry j .limit) ((p * 512 + i) * span l) (span l) (signed o))
+      → (planOf j .geometry .limit < shifted ((p * 512 + i) * span l) o + span l) ↔ (¬ Fits (geometry j .limit) ((p * 512 + i) * span l) (span l) (signed o))
   far-iff t l p i o hi way ed =
       let a : ℕ = (p * 512 + i) * span l in
       let w = part-first l (p * 512 + i) in
       let z = way-part _ _ _ _ way a (omega (arith, part-step l a, w)) in
-      let lo : a < 2 ^ 63 = omega (arith, part-below (height j) a z, walked-word j) in
-      rw (plan-is j .limit) (past-iff a o lo (offset-word l a o ed) (geometry j .limit) (omega (arith, limit-field j)) (span l) (span-pos l))
+      let lo : a < 2 ^ 63 = omega (arith, part-below (height j) a z, geometry-sound (j .cr4) .word) in
+      rw (plan-is j .limit) (past-iff a o lo (offset-word l a o ed) (geometry j .limit) (omega (arith, geometry-sound (j .cr4) .field)) (span l) (span-pos l))
 
   far-entry : (t l p i : ℕ) → i < 512 → Reached j t (suc l) p → (n : ℕ) (q : Place) → n ≡ 13 → BadEntry (planOf j) l ((p * 512 + i) * span l) (j .image (512 * t + i)) n q → TooFar j q
   far-entry t l p i low way n q e (inTail ek h) = absurd (omega arith)

@@ -14,10 +14,10 @@ use Rattle.definitions.specs.Ranges.{Kind, absent, leaf, outside, table, usedTa
 use Rattle.definitions.specs.Build.{geometry, height, planOf, build}
 use Rattle.definitions.specs.Walk.{nothing, endOf, endAt}
 use Rattle.definitions.specs.Demand.{Proper, IsRead, readsBefore, Reached, Written, leafIn, tableIn, Became, Untouched}
-use Rattle.definitions.proofs.Splits.{onBool}
-use Rattle.definitions.proofs.Levels.{part-below}
-use Rattle.definitions.proofs.Regions.{region-aligned}
-use Rattle.definitions.proofs.Reading.{kind-tells}
+use Rattle.definitions.proofs.Splits.{onBool, impossible}
+use Rattle.definitions.proofs.Geometry.{part-below}
+use Rattle.definitions.proofs.Ranges.{region-sound}
+use Rattle.definitions.proofs.Kind.{kind-tells}
 use Rattle.definitions.specs.declared.Moved.{Moved}
 use Rattle.demands.proofs.Insert.{at, Puts, Wrote, ended}
 use Rattle.demands.proofs.Visit.{Sound}
@@ -30,9 +30,9 @@ use Rattle.demands.proofs.Outcome.{Ran, accepted-used, accepted-output}
 end-absent : (k : Kind) (l e : ℕ) → endOf k l e ≡ nothing → k ≡ absent
 unfolding endOf
 end-absent absent l e w = refl
-end-absent leaf l e w = let z : _≡_ {A = ℕ} 0 1 = cc in absurd (omega arith)
-end-absent outside l e w = let z : _≡_ {A = ℕ} 0 1 = cc in absurd (omega arith)
-end-absent (table t) l e w = let z : _≡_ {A = ℕ} 0 1 = cc in absurd (omega arith)
+end-absent leaf l e w = impossible (cc)
+end-absent outside l e w = impossible (cc)
+end-absent (table t) l e w = impossible (cc)
 
 module _ (j : Job) (proper : Proper j) (R : Ran j (build j)) where
   S : Sound (paging j) (passing j)
@@ -108,7 +108,7 @@ module _ (j : Job) (proper : Proper j) (R : Ran j (build j)) where
   fresh k h =
       rw (at-word k)
       (⊎-elim inl (λ c. inr (c .2, part (c .2) (c .0 .address), written (c .0) (c .1) (c .2) _ (c .3)))
-      (R .filled .news k (omega (arith, region-aligned (geometry j .limit) (j .region) (R .good .region) .used))))
+      (R .filled .news k (omega (arith, region-sound (geometry j .limit) (j .region) (R .good .region) .used))))
 
   pub untouched : Untouched j
   untouched = record { read = read-iff; unread = unread; entries = entries; fresh = fresh; zeros = λ k h. at-word k ∙ R .filled .good .free k (omega (arith, accepted-used j R)) }

@@ -16,8 +16,8 @@ use Rattle.definitions.specs.Ranges.{shifted, kind, kindOf, decide, deciding, r
 use Rattle.definitions.specs.Step.{Step, go, stop, unless, andThen}
 use Rattle.definitions.specs.Pass1.{Plan, State, taken, remember, moveAct, leafAct, kindAct, act, perform}
 use Rattle.definitions.proofs.Pass1.{act-absent, act-stay}
-use Rattle.definitions.proofs.Steps.{unless-then}
-use Rattle.definitions.proofs.Levels.{page-fits}
+use Rattle.definitions.proofs.Step.{unless-then}
+use Rattle.definitions.proofs.Geometry.{page-fits}
 use Rattle.definitions.specs.declared.Moved.{Moved}
 use Rattle.entry.proofs.Bits.{pages}
 use Rattle.moved.specs.View.{leaf, leavesOf, keptStep, KeptIn, Keeps, Held}
@@ -75,7 +75,7 @@ module _ (x : Spot) (o : ℕ) (m : Mem) (xs : List ℕ) (w : Walk) (held : Held 
     unfolding moveAct perform
     moves-past f r e =
         rw e (record {
-          step = λ p q down. rw (eq-eqb (o % span (x .level)) 0 whole, lt-ltb (p .limit) (shifted (x .va) o + span (x .level)) (omega arith));
+          step = λ p q down. rw (eq-eqb (o % span (x .level)) 0 whole, lt-ltb (p .geometry .limit) (shifted (x .va) o + span (x .level)) (omega arith));
           held = held;
           long = refl;
         })
@@ -90,12 +90,12 @@ module _ (x : Spot) (o : ℕ) (m : Mem) (xs : List ℕ) (w : Walk) (held : Held 
       abbrev onward : List Moved → Step State
       onward ms = go (record { mem = put m (x .at) 0; reached = setOf (w .reached); moved = ms })
 
-      moved-on : (p : Plan) → p .limit ≡ 2 ^ 48 → (down : ℕ → State → Step State)
+      moved-on : (p : Plan) → p .geometry .limit ≡ 2 ^ 48 → (down : ℕ → State → Step State)
           → andThen (remembering b v) onward ≡ perform (length xs / 3) down (x .level) (x .va) (x .at) (view m xs w) (moveAct p (x .level) (x .va) (x .entry) o)
       unfolding moveAct perform andThen
       moved-on p q down =
           ap (λ (z : Step (List Moved)). andThen z onward) (ap (remembering b) set ∙ ap (λ (z : ℕ). remembering z (withLeafAddress (x .level) (x .entry) z)) at)
-          ∙ rw (eq-eqb (o % span (x .level)) 0 whole, le-ltb (p .limit) (shifted (x .va) o + span (x .level)) (omega arith))
+          ∙ rw (eq-eqb (o % span (x .level)) 0 whole, le-ltb (p .geometry .limit) (shifted (x .va) o + span (x .level)) (omega arith))
           (unless-then (taken (shifted (x .va) o) (leavesOf xs (w .store))) 14 (placeAt (x .va) (x .level)) _ onward
           ∙ ap (unless (taken (shifted (x .va) o) (leavesOf xs (w .store))) 14 (placeAt (x .va) (x .level))) (unless-then (leb (length xs / 3) (length (leavesOf xs (w .store)))) 15 (placeAt (x .va) (x .level)) _ onward))
 

@@ -15,7 +15,7 @@ use Rattle.definitions.specs.Ranges.{within, tableAt, usedTables, shifted, tabl
 use Rattle.definitions.specs.Step.{Step}
 use Rattle.definitions.specs.Pass1.{State, Act, follow, perform}
 use Rattle.definitions.proofs.Answers.{and-l, and-r}
-use Rattle.definitions.proofs.Fields.{address-is}
+use Rattle.definitions.proofs.Entry.{address-is}
 use Rattle.definitions.proofs.Pass1.{act-free, act-follow, act-into-moved, act-outside, perform-again, perform-down}
 use Rattle.definitions.specs.declared.Region.{Region}
 use Rattle.moved.specs.View.{leavesOf}
@@ -29,9 +29,7 @@ use Rattle.pass1.specs.declared.Turn.the-variants.{Down}
 use Rattle.pass1.specs.declared.Opened.{Opened}
 use Rattle.pass1.specs.Walks.{actAt, view, refusing, planOf, JobFits, performed, Points, ended, Opens}
 use Rattle.pass1.proofs.Moving.{outcome-go}
-
-nay : {A : Type 0} → _≡_ {A = ℕ} 0 1 → A
-nay e = absurd (omega arith)
+use Rattle.definitions.proofs.Splits.{impossible}
 
 bounds : (r : Region) (a : ℕ) → within r a ≡ true → (r .gpa ≤ a) × (a < r .gpa + r .size)
 unfolding within
@@ -39,7 +37,7 @@ bounds r a h = (leb-true _ _ (and-l (leb (r .gpa) a) (ltb a (r .gpa + r .size)) 
 
 pointer-level : (l e : ℕ) → pointer l e ≡ true → 1 ≤ l
 unfolding pointer
-pointer-level zero e h = nay (ap (λ (z : Bool). cond z 1 0) h)
+pointer-level zero e h = impossible (ap (λ (z : Bool). cond z 1 0) h)
 pointer-level (suc l) e h = omega arith
 
 -- the moved table's address fits an entry

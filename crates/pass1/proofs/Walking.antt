@@ -6,7 +6,7 @@ use Prim.Native.Nat.{ℕ, suc, _+_, _-_, _*_, _/_, _%_, _^_, _≤_, _<_}
 use native.Mathlib.Omega.{arith}
 use native.Mathlib.Nat.{suc-mul, mul-le-mul-right, div-add-mod'}
 use lib.Arith.{digits-mod}
-use Rattle.definitions.proofs.Levels.{span-pos}
+use Rattle.definitions.proofs.Geometry.{span-pos}
 use lib.ListN.{length}
 use Rattle.definitions.specs.Words.{Mem, Tables, slot, mark, noTables}
 use Rattle.definitions.specs.Geometry.{span}

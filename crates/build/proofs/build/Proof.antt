@@ -1,7 +1,7 @@
 use native.Mathlib.Omega.{arith}
 use Rattle.build.proofs.Calls.{image-fits, begun, refused-builds, accepted-builds}
 use Rattle.build.specs.Meaning.{Starts, Passes}
-use Rattle.definitions.proofs.Builds.{build-checks}
+use Rattle.definitions.proofs.Build.{build-checks}
 use Rattle.definitions.specs.Build.{jobOf}
 use Rattle.definitions.specs.Words.{wordsOf}
 use lib.ListN.{length}

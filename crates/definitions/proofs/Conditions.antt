@@ -8,7 +8,7 @@ use Rattle.definitions.specs.Inputs.{Place}
 use Rattle.definitions.specs.Ranges.{leaf, outside, table}
 use Rattle.definitions.specs.Pass1.{Plan, refuse, act}
 use Rattle.definitions.specs.Conditions.{BadEntry, inTail, intoMoved, notWhole, tooFar}
-use Rattle.definitions.proofs.Reading.{kind-tells}
+use Rattle.definitions.proofs.Kind.{kind-tells}
 use Rattle.definitions.proofs.Pass1.{act-free, act-into-moved, act-unaligned, act-too-far}
 use Rattle.definitions.proofs.Acts.{act-means}
 

@@ -15,7 +15,7 @@ use Rattle.definitions.specs.Step.{Step, go}
 use Rattle.definitions.specs.Pass1.{Plan, Moved, Act, keep, move, follow, refuse, State, taken, remember, without, pointed, perform, visit, walkTable}
 use Rattle.definitions.specs.Build.{height, firstPass, root, planOf}
 use Rattle.definitions.specs.Inputs.{Job}
-use Rattle.definitions.proofs.Steps.{After, after-unless, after-times}
+use Rattle.definitions.proofs.Step.{After, after-unless, after-times}
 use Rattle.definitions.proofs.Acts.{Means, act-means}
 use Rattle.definitions.proofs.Checks.{startState}
 

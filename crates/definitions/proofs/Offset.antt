@@ -14,8 +14,8 @@ use Rattle.definitions.specs.Geometry.{span}
 use Rattle.definitions.specs.Inputs.{Region, Range}
 use Rattle.definitions.specs.Ranges.{shifted, magnitude, offsetOk, rangesOf, joined, deciding, touches, touching, stay, shift, byOffset, verdict, decide}
 use Rattle.definitions.specs.Offset.{upBy, downBy, signed, absolute, Target, Fits}
-use Rattle.definitions.proofs.Splits.{onBool}
-use Rattle.definitions.proofs.Regions.{offset-aligned}
+use Rattle.definitions.proofs.Splits.{onBool, impossible}
+use Rattle.definitions.proofs.Ranges.{offset-sound}
 
 -- how far an offset moves is its absolute value
 pub magnitude-absolute : (o : ℕ) → magnitude o ≡ absolute (signed o)
@@ -69,7 +69,7 @@ module _ (a o : ℕ) (low : a < 2 ^ 63) (word : o < 2 ^ 64) where
 pub offset-ok-iff : (limit : ℕ) → limit ≤ 2 ^ 63 → (r : Region) → r .gpa < 2 ^ 63 → 0 < r .size → (o : ℕ) → o < 2 ^ 64 → (offsetOk limit r o ≡ true) ↔ ((o % 4096 ≡ 0) × Fits limit (r .gpa) (r .size) (signed o))
 unfolding offsetOk
 offset-ok-iff limit most r low pos o word = (
-  (λ h. let c = offset-aligned limit r o h in (c .0, fits-iff (r .gpa) o low word limit most (r .size) pos .0 (c .1))),
+  (λ h. let c = offset-sound limit r o h in (c .0, fits-iff (r .gpa) o low word limit most (r .size) pos .0 (c .1))),
   λ f. rw (eq-eqb (o % 4096) 0 (f .0), le-leb (shifted (r .gpa) o + r .size) limit (fits-iff (r .gpa) o low word limit most (r .size) pos .1 (f .1))) refl,
 )
 
@@ -102,11 +102,11 @@ touching-offsets a n (r ∷ rs) hs = let ih = touching-offsets a n rs (hs .1) in
 
 verdict-offset : (n : ℕ) (rs : List Range) → Offsets rs → (o : ℕ) → verdict n rs ≡ shift o → o < 2 ^ 64
 unfolding verdict byOffset
-verdict-offset n [] hs o w = let z : _≡_ {A = ℕ} 0 1 = cc in absurd (omega arith)
+verdict-offset n [] hs o w = impossible (cc)
 verdict-offset n (r ∷ rs) hs o w =
     onBool (ltb (magnitude (r .offset)) n)
     (λ e. let d : shift (r .offset) ≡ shift o = rw e at w in let z : r .offset ≡ o = cc in omega (arith, hs .0))
-    (λ e. let d : stay ≡ shift o = rw e at w in let z : _≡_ {A = ℕ} 0 1 = cc in absurd (omega arith))
+    (λ e. let d : stay ≡ shift o = rw e at w in impossible (cc))
 
 pub decide-offset : (rs : List Range) → Offsets rs → (l a o : ℕ) → decide rs l a ≡ shift o → o < 2 ^ 64
 unfolding decide

@@ -13,6 +13,7 @@ use Rattle.definitions.specs.Ranges.{within, tableAt, leaf, outside, tab
 use Rattle.definitions.specs.Pass1.{Moved, State, without, pointed}
 use Rattle.definitions.specs.Pass2.{Fill, placed, linked}
 use Rattle.definitions.proofs.Puts.{put-same}
+use Rattle.definitions.proofs.Splits.{impossible}
 
 -- a leaf that moves leaves nothing at its old place
 pub cleared : (k : ℕ) (x : Moved) (s : State) → without k x s .mem k ≡ 0
@@ -33,7 +34,7 @@ merges-equal l x k e s g p = rw p (turn (eqb e (x .entry)) refl)
   where
     turn : (b : Bool) → eqb e (x .entry) ≡ b → cond (not b) (stop 18 (placeAt (x .address) l)) (go (record { mem = s .mem; next = s .next; merged = suc (s .merged) })) ≡ go g → e ≡ x .entry
     turn true q w = eqb-true _ _ q
-    turn false q w = let z : _≡_ {A = ℕ} 0 1 = cc in absurd (omega arith)
+    turn false q w = impossible (cc)
 
 -- no walk follows an entry with bit 7 below level 3
 pub large-ends : (r : Region) (l e : ℕ) → l < 3 → present e ≡ true → large e ≡ true → kind r l e ≡ leaf
