@@ -4,9 +4,9 @@ use mathlib.Core.Path.{_≡_, sym, ap, _∙_}
 use mathlib.Core.List.{List}
 use Prim.Native.Nat.{ℕ}
 use native.Mathlib.Omega.{arith}
-use Rattle.definitions.specs.Geometry.{four, indices}
+use Rattle.definitions.specs.Geometry.{four}
 use Rattle.definitions.specs.Entry.{Answer as Said, mappedSize, levelIndex}
-use Rattle.levels.specs.Answers.{answerOf}
+use Rattle.levels.specs.Answers.{answerOf, Sized, Indexed, IndexedAll}
 use Rattle.levels.specs.declared.Answer.{Answer}
 use Rattle.levels.specs.declared.Answer.the-variants.{Good, Refused}
 
@@ -20,11 +20,11 @@ answer-injective (Refused a) (Refused b) e = ap Refused (ap (λ (x : Said). x .w
 pub one-answer : (x : Said) (r s : Answer) → answerOf r ≡ x → answerOf s ≡ x → r ≡ s
 one-answer x r s p q = answer-injective r s (p ∙ sym q)
 
-pub one-mapping-size : (l : ℕ) (r s : Answer) → answerOf r ≡ mappedSize four l → answerOf s ≡ mappedSize four l → r ≡ s
+pub one-mapping-size : (l : ℕ) (r s : Answer) → Sized l r → Sized l s → r ≡ s
 one-mapping-size l = one-answer (mappedSize four l)
 
-pub one-index : (l a : ℕ) (r s : Answer) → answerOf r ≡ levelIndex four l a → answerOf s ≡ levelIndex four l a → r ≡ s
-one-index l a = one-answer (levelIndex four l a)
+pub one-index : (a l : ℕ) (r s : Answer) → Indexed a l r → Indexed a l s → r ≡ s
+one-index a l = one-answer (levelIndex four l a)
 
-pub one-indices : (a : ℕ) (r s : List ℕ) → r ≡ indices four a → s ≡ indices four a → r ≡ s
+pub one-indices : (a : ℕ) (r s : List ℕ) → IndexedAll a r → IndexedAll a s → r ≡ s
 one-indices a r s p q = p ∙ sym q

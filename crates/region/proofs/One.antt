@@ -4,11 +4,10 @@ use mathlib.Core.Path.{_≡_, refl, sym, ap, _∙_}
 use mathlib.Core.Bool.{Bool}
 use mathlib.Core.List.{List}
 use Prim.Native.Nat.{ℕ}
-use Rattle.definitions.specs.Geometry.{four}
 use Rattle.definitions.specs.declared.Region.{Region}
-use Rattle.definitions.specs.Ranges.{regionOk, offsetOk, movedRegion, tableIn}
-use Rattle.definitions.specs.Load.{Loaded, loaded, load}
-use Rattle.region.specs.Meaning.{indexOf}
+use Rattle.definitions.specs.declared.paging.Geometry.{Geometry}
+use Rattle.definitions.specs.Load.{Loaded}
+use Rattle.region.specs.Meaning.{indexOf, Valid, OffsetValid, MovedBy, Held, Loads}
 use Rattle.region.specs.declared.TableIndex.{TableIndex}
 use Rattle.region.specs.declared.TableIndex.the-variants.{At, Outside}
 
@@ -18,19 +17,19 @@ index-injective (At a) Outside e = cc
 index-injective Outside (At b) e = cc
 index-injective Outside Outside e = refl
 
-pub one-valid : (r : Region) (v w : Bool) → v ≡ regionOk (four .limit) r → w ≡ regionOk (four .limit) r → v ≡ w
-one-valid r v w p q = p ∙ sym q
+pub one-valid : (g : Geometry) (r : Region) (v w : Bool) → Valid g r v → Valid g r w → v ≡ w
+one-valid g r v w p q = p ∙ sym q
 
-pub one-offset-valid : (r : Region) (o : ℕ) (v w : Bool) → v ≡ offsetOk (four .limit) r o → w ≡ offsetOk (four .limit) r o → v ≡ w
-one-offset-valid r o v w p q = p ∙ sym q
+pub one-offset-valid : (g : Geometry) (r : Region) (o : ℕ) (v w : Bool) → OffsetValid g r o v → OffsetValid g r o w → v ≡ w
+one-offset-valid g r o v w p q = p ∙ sym q
 
-pub one-moved-by : (r : Region) (o : ℕ) (m n : Region) → m ≡ movedRegion r o → n ≡ movedRegion r o → m ≡ n
+pub one-moved-by : (r : Region) (o : ℕ) (m n : Region) → MovedBy r o m → MovedBy r o n → m ≡ n
 one-moved-by r o m n p q = p ∙ sym q
 
-pub one-table-index : (r : Region) (a : ℕ) (t u : TableIndex) → indexOf t ≡ tableIn r a → indexOf u ≡ tableIn r a → t ≡ u
+pub one-table-index : (r : Region) (a : ℕ) (t u : TableIndex) → Held r a t → Held r a u → t ≡ u
 one-table-index r a t u p q = index-injective t u (p ∙ sym q)
 
 -- the number, and the image at exit
-module _ (r : Region) (image : List ℕ) (gpa : ℕ) (page : List ℕ) where
-  pub one-load : (n m : ℕ) (xs ys : List ℕ) → loaded n xs ≡ load four r image gpa page → loaded m ys ≡ load four r image gpa page → (n ≡ m) × (xs ≡ ys)
+module _ (g : Geometry) (r : Region) (image : List ℕ) (gpa : ℕ) (page : List ℕ) where
+  pub one-load : (n m : ℕ) (xs ys : List ℕ) → Loads g r image gpa page n xs → Loads g r image gpa page m ys → (n ≡ m) × (xs ≡ ys)
   one-load n m xs ys p q = (ap (λ (l : Loaded). l .number) (p ∙ sym q), ap (λ (l : Loaded). l .image) (p ∙ sym q))

@@ -1,0 +1,16 @@
+-- `levels::geometry_of` meets its contract: every cr4 has four levels.
+-- Assumes nothing.
+use Rattle.definitions.specs.Build.{geometryOf}
+use borrow.Author.Needs.{needs}
+use Rattle.levels.proofs.geometry_of.Statement.{statement}
+use Rattle.levels.proofs.geometry_of.Tie as tie
+
+four-requires : tie.Need-four-requires
+four-requires c κs = search needs
+
+returns : tie.Need-returns
+unfolding geometryOf
+returns c = c .four .ensures
+
+pub geometry-of-spec : {M : Type 1} → statement M
+geometry-of-spec = tie.close (tie.spec four-requires returns)
