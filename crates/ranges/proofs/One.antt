@@ -4,10 +4,9 @@ use mathlib.Core.Path.{_≡_, refl, sym, _∙_}
 use mathlib.Core.Bool.{Bool}
 use mathlib.Core.List.{List}
 use Prim.Native.Nat.{ℕ}
-use Rattle.definitions.specs.Inputs.{Range}
-use Rattle.definitions.specs.Ranges.{magnitude, decide}
 use Rattle.definitions.specs.declared.Region.{Region}
-use Rattle.ranges.specs.Lists.{validFor, saysOf}
+use Rattle.definitions.specs.declared.paging.Geometry.{Geometry}
+use Rattle.ranges.specs.Lists.{saysOf, Magnitude, ListValid, Looks}
 use Rattle.ranges.specs.declared.Shift.{Shift}
 use Rattle.ranges.specs.declared.Shift.the-variants.{By, Stay}
 
@@ -17,11 +16,11 @@ says-injective (By a) Stay e = cc
 says-injective Stay (By b) e = cc
 says-injective Stay Stay e = refl
 
-pub one-lookup : (rs : List Range) (l a : ℕ) (r s : Shift) → saysOf r ≡ decide rs l a → saysOf s ≡ decide rs l a → r ≡ s
-one-lookup rs l a r s p q = says-injective r s (p ∙ sym q)
+pub one-lookup : (ws : List ℕ) (g : Region) (o l a : ℕ) (r s : Shift) → Looks ws g o l a r → Looks ws g o l a s → r ≡ s
+one-lookup ws g o l a r s p q = says-injective r s (p ∙ sym q)
 
-pub one-list-valid : (g : Region) (ws : List ℕ) (r s : Bool) → r ≡ validFor g ws → s ≡ validFor g ws → r ≡ s
-one-list-valid g ws r s p q = p ∙ sym q
+pub one-list-valid : (ws : List ℕ) (m : Geometry) (g : Region) (r s : Bool) → ListValid ws m g r → ListValid ws m g s → r ≡ s
+one-list-valid ws m g r s p q = p ∙ sym q
 
-pub one-magnitude : (o r s : ℕ) → r ≡ magnitude o → s ≡ magnitude o → r ≡ s
+pub one-magnitude : (o r s : ℕ) → Magnitude o r → Magnitude o s → r ≡ s
 one-magnitude o r s p q = p ∙ sym q
