@@ -1,4 +1,4 @@
--- What the types of the code mean in the definitions, and what each function says.
+-- What the types of the code mean in the definitions, and what each function promises.
 -- Assumes nothing.
 use mathlib.Core.Path.{_≡_}
 use mathlib.Core.List.{List}
@@ -6,12 +6,13 @@ use Prim.Native.Nat.{ℕ, _+_, _*_}
 use lib.ListN.{length, replicate}
 use Rattle.definitions.specs.Words.{Mem, wordsOf, count}
 use Rattle.definitions.specs.Inputs as I
-use Rattle.definitions.specs.Step.{stop}
-use Rattle.definitions.specs.Build.{root, start, refused, build, outputBytes}
+use Rattle.definitions.specs.Step.{stopped}
+use Rattle.definitions.specs.Build.{geometry, root, start, refused, build, outputBytes}
 use Rattle.definitions.proofs.Checks.{Good}
-use Rattle.definitions.specs.declared.Place.{Place}
+use Rattle.definitions.specs.declared.Refusal.{Refusal}
 use Rattle.definitions.specs.declared.Region.{Region}
 use Rattle.definitions.specs.declared.Report.{Report}
+use Rattle.definitions.specs.declared.paging.Geometry.{Geometry}
 use Rattle.moved.specs.declared.Store.{Store}
 use Rattle.reached.specs.Held.{setOf}
 use Rattle.reached.specs.declared.Reached.{Reached}
@@ -35,11 +36,12 @@ counted reached store f = record {
 -- the checks: all passed, and t is the root's table; or the first that applies
 abbrev pub Starts : I.Job → Start → Type 0
 Starts j (Root t) = Good j × (t ≡ root j)
-Starts j (Refused n p) = start j ≡ stop n p
+Starts j (Refused r) = start j ≡ stopped r
 
 -- the passes are called for job j: its checks passed, and the output holds its image
-pub record Ready (j : I.Job) (r : Region) (o : ℕ) (ws : List ℕ) (t : ℕ) (out scratch : List ℕ) : Type 0 where
+pub record Ready (j : I.Job) (out scratch ws : List ℕ) (g : Geometry) (r : Region) (o t : ℕ) : Type 0 where
   pub good : Good j
+  pub geometry : geometry j ≡ g
   pub region : j .region ≡ r
   pub offset : j .tableOffset ≡ o
   pub words : j .words ≡ ws
@@ -48,17 +50,21 @@ pub record Ready (j : I.Job) (r : Region) (o : ℕ) (ws : List ℕ) (t : ℕ) (o
   pub output : length out ≡ j .outputLength
   pub room : length scratch ≡ j .scratchLength
 
+-- what a build makes of a refusal
+abbrev pub refusedBy : Refusal → I.Built
+refusedBy r = refused (r .number) (r .place)
+
 abbrev pub Passes : I.Job → Mem → Ended → Type 0
 Passes j m (Accepted p) = (p ≡ build j .report) × (m ≡ build j .output)
-Passes j m (Stopped n p) = build j ≡ refused n p
+Passes j m (Stopped r) = build j ≡ refusedBy r
 
-pub record Refuses (n : ℕ) (q : Place) (p : Report) (bytes words bytes′ words′ : List ℕ) : Type 0 where
-  pub report : p ≡ refused n q .report
+pub record Refuses (r : Refusal) (p : Report) (bytes words bytes′ words′ : List ℕ) : Type 0 where
+  pub report : p ≡ refusedBy r .report
   pub output : bytes′ ≡ replicate (length bytes) 0
   pub scratch : words′ ≡ replicate (length words) 0
 
--- what a build promises, with n words of scratch: the report, every byte of the output and every word of the scratch
-pub record Builds (j : I.Job) (n : ℕ) (p : Report) (bytes words : List ℕ) : Type 0 where
+-- `build`: the report, every byte of the output and every word of the scratch, for a job
+pub record Builds (j : I.Job) (p : Report) (bytes words : List ℕ) : Type 0 where
   pub report : p ≡ build j .report
   pub output : bytes ≡ outputBytes j
-  pub scratch : words ≡ replicate n 0
+  pub scratch : words ≡ replicate (j .scratchLength) 0
