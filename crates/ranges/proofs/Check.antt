@@ -13,7 +13,7 @@ use Rattle.definitions.specs.declared.Region.{Region}
 use Rattle.ranges.specs.Lists.{range, validFor}
 use Rattle.ranges.proofs.Threes.{Third, inside, next, from, from-cons, from-none, Bounded, bounded, ok-none}
 
--- the range before word i ends below lo
+-- the range before word i ends below lo; what is left says what the whole does
 pub record Checking (limit : ℕ) (g : Region) (ws : List ℕ) (i lo : ℕ) : Type 0 where
   pub at : Third ws i
   pub rest : rangesOk limit g lo (from ws i) ≡ validFor limit g ws

@@ -66,7 +66,7 @@ module _ (limit : ℕ) (g : Region) (a n : ℕ) where
       let k = ok-first limit g lo r rs ok in
       rw (far a n r (omega arith)) (none-past (suc (r .last)) rs (ok-rest limit g lo r rs ok) (omega arith))
 
-  -- nor does one beside x
+  -- with x joined, x alone may touch
   joined-past : (x : Range) (lo : ℕ) (rs : List Range) → rangesOk limit g lo rs ≡ true → a + n ≤ lo
       → touching a n (joined x rs) ≡ cond (touches a n x) (x ∷ []) []
   unfolding touching joined

@@ -30,12 +30,13 @@ module _ {ws : List ℕ} {i : ℕ} (at : Third ws i) (more : i < length ws) wher
   pub next : Third ws (i + 3)
   next = record { whole = at .whole; third = omega arith; low = omega arith }
 
--- ---- the ranges from word i on
+-- ---- the ranges
 
--- the range that begins at word i, and those after it
+-- the range at word i
 abbrev pub rangeIn : List ℕ → ℕ → Range
 rangeIn ws i = range (getD ws i 0) (getD ws (i + 1) 0) (getD ws (i + 2) 0)
 
+-- the ranges from word i on
 abbrev pub from : List ℕ → ℕ → List Range
 from ws i = rangesOf (drop i ws)
 
