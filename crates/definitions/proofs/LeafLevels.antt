@@ -16,17 +16,9 @@ use Rattle.definitions.specs.Pass1.{Plan, Moved, Act, keep, move, follow
 use Rattle.definitions.specs.Build.{height, firstPass, root, planOf}
 use Rattle.definitions.specs.Inputs.{Job}
 use Rattle.definitions.proofs.Step.{After, after-unless, after-times}
+use Rattle.definitions.proofs.Leaves.{remember-only}
 use Rattle.definitions.proofs.Acts.{Means, act-means}
 use Rattle.definitions.proofs.Checks.{startState}
-
-remember-only : (x : Moved) (ys : List Moved) (y : Moved) → List·Memᴰ y (remember x ys) → (y ≡ x) ⊎ List·Memᴰ y ys
-unfolding remember
-remember-only x [] y e = List·Memᴰ·cases-cons e
-remember-only x (z ∷ zs) y e = turn (ltb (x .address) (z .address)) (remember-only x zs y) e
-  where
-    turn : (b : Bool) → (List·Memᴰ y (remember x zs) → (y ≡ x) ⊎ List·Memᴰ y zs) → List·Memᴰ y (cond b (x ∷ z ∷ zs) (z ∷ remember x zs)) → (y ≡ x) ⊎ List·Memᴰ y (z ∷ zs)
-    turn true ih e = List·Memᴰ·cases-cons e
-    turn false ih e = ⊎-elim (λ d. inr (List·Memᴰ·head d)) (λ d. ⊎-elim inl (λ w. inr (List·Memᴰ·tail w)) (ih d)) (List·Memᴰ·cases-cons e)
 
 -- each leaf is of a level below h
 abbrev pub Low : ℕ → State → Type 0
