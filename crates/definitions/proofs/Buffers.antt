@@ -35,7 +35,8 @@ module _ (n : ℕ) (m : Mem) (low : (k : ℕ) → m k < 2 ^ 64) (past : (k : ℕ
         | yes d ↦ bytes-at n 0 m i d ∙ ap (byteOf m) (zero-add i)
         | no d ↦
             List·getD-eq-default (bytesOf n m) 0 {n = i} (omega (arith, length-bytes n 0 m))
-            ∙ sym (ap (λ (x : ℕ). x / 256 ^ (i % 8) % 256) (past (i / 8) (omega arith)) ∙ ap (λ (x : ℕ). x % 256) (div-eq-of-lt (one-le-pow (i % 8) 256 (zero-lt-suc 255))))
+            ∙ sym (ap (λ (x : ℕ). x / 256 ^ (i % 8) % 256) (past (i / 8) (omega arith))
+            ∙ ap (λ (x : ℕ). x % 256) (div-eq-of-lt (one-le-pow (i % 8) 256 (zero-lt-suc 255))))
       ]
 
   pub words-bytes : wordsOf (bytesOf n m) ≡ m

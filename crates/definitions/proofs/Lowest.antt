@@ -9,13 +9,13 @@ use lib.Dec.{eqb, ltb, leb}
 use borrow.Author.Tests.{eq-eqb, ne-eqb, lt-ltb, le-leb, leb-true}
 use Rattle.definitions.specs.Inputs.{Job, Place, nowhere, placeAt}
 use Rattle.definitions.specs.Step.{Step, go, stop, unless, andThen}
-use Rattle.definitions.specs.Ranges.{regionOk, within, usedTables, offsetOk, rangesOf, listOk, rangesOk}
+use Rattle.definitions.specs.Ranges.{regionOk, within, usedTables, offsetOk, listOk}
 use Rattle.definitions.specs.Pass1.{State}
 use Rattle.definitions.specs.Build.{geometry, height, root, start, refused, result, passes, build}
 use Rattle.definitions.specs.Conditions.{BadInput, badRegion, badImage, badOutput, badLevels, badRoot, badOffset, badList, badRanges, freeRoot}
 use Rattle.definitions.proofs.Splits.{impossible}
 use Rattle.definitions.proofs.Answers.{and-l, and-r}
-use Rattle.definitions.proofs.Checks.{startState}
+use Rattle.definitions.proofs.Checks.{startState, eachOk}
 
 -- a fault, and the number and the place that it stops with
 data Check : Type 0 where
@@ -33,7 +33,7 @@ checks j =
     ∷ check (not (within (j .region) (j .cr3))) 6 nowhere
     ∷ check (not (offsetOk (geometry j .limit) (j .region) (j .tableOffset))) 7 nowhere
     ∷ check (not (listOk (j .words))) 8 nowhere
-    ∷ check (not (rangesOk (geometry j .limit) (j .region) 0 (rangesOf (j .words)))) 8 nowhere
+    ∷ check (not (eachOk j)) 8 nowhere
     ∷ check (leb (usedTables (j .region)) (root j)) 9 (placeAt 0 (height j))
     ∷ []
 
