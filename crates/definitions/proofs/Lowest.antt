@@ -25,6 +25,7 @@ abbrev chain : List Check → Step State → Step State
 chain [] end = end
 chain (check b n q ∷ cs) end = unless b n q (chain cs end)
 
+-- those of `start`: `at` holds only if they are
 abbrev checks : Job → List Check
 checks j =
     check (not (regionOk (geometry j .limit) (j .region))) 1 nowhere
