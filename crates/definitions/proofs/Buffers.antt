@@ -3,12 +3,12 @@
 use mathlib.Core.Path.{_≡_, refl, sym, ap, ap₂, _∙_, fun-ext}
 use mathlib.Core.List.{List}
 use Prim.Native.Nat.{ℕ, zero, suc, _+_, _*_, _/_, _%_, _^_, _<_}
-use native.Mathlib.Nat.{mod-one, pow-suc, pow-succ', zero-lt-suc, one-le-pow, zero-add, add-zero, add-suc, suc-add, div-one, div-eq-of-lt, div-div-eq-div-mul}
+use native.Mathlib.Nat.{mod-one, zero-add, add-zero, div-one, div-eq-of-lt}
 use native.Mathlib.Decide.{decLt}
 use native.Mathlib.Omega.{arith}
-use lib.Arith.{mod-mul}
 use lib.ListN.{getD, List·getD-eq-default}
 use Rattle.definitions.specs.Words.{Mem, number, wordsOf, byteOf, bytesOf}
+use Rattle.definitions.proofs.Numbers.{suc-across, div-digit, bytes-pos, mod-byte}
 use Rattle.definitions.proofs.Words.{length-bytes, bytes-at}
 
 -- a number whose bytes are those of v
@@ -17,15 +17,15 @@ unfolding number
 number-of-bytes zero xs p v h = sym (mod-one v)
 number-of-bytes (suc n) xs p v h =
     ap₂ (λ (x y : ℕ). x + 256 * y) first (number-of-bytes n xs (suc p) (v / 256) later)
-    ∙ sym (ap (λ (x : ℕ). v % x) (pow-suc 256 n) ∙ mod-mul v (one-le-pow n 256 (zero-lt-suc 255)) (zero-lt-suc 255) ∙ omega arith)
+    ∙ sym (mod-byte v n)
   where
     first : getD xs p 0 ≡ v % 256
     first = ap (λ (k : ℕ). getD xs k 0) (sym (add-zero p)) ∙ h 0 (omega arith) ∙ ap (λ (x : ℕ). x % 256) (div-one v)
 
     later : (i : ℕ) → i < n → getD xs (suc p + i) 0 ≡ v / 256 / 256 ^ i % 256
     later i l =
-        ap (λ (k : ℕ). getD xs k 0) (suc-add p i ∙ sym (add-suc p i)) ∙ h (suc i) (omega arith)
-        ∙ ap (λ (x : ℕ). x % 256) (ap (λ (x : ℕ). v / x) (pow-succ' 256 i) ∙ sym (div-div-eq-div-mul v 256 (256 ^ i)))
+        ap (λ (k : ℕ). getD xs k 0) (suc-across p i) ∙ h (suc i) (omega arith)
+        ∙ ap (λ (x : ℕ). x % 256) (div-digit 256 v i)
 
 module _ (n : ℕ) (m : Mem) (low : (k : ℕ) → m k < 2 ^ 64) (past : (k : ℕ) → n < 8 * k + 8 → m k ≡ 0) where
   byte-at : (i : ℕ) → getD (bytesOf n m) i 0 ≡ byteOf m i
@@ -35,7 +35,8 @@ module _ (n : ℕ) (m : Mem) (low : (k : ℕ) → m k < 2 ^ 64) (past : (k : ℕ
         | yes d ↦ bytes-at n 0 m i d ∙ ap (byteOf m) (zero-add i)
         | no d ↦
             List·getD-eq-default (bytesOf n m) 0 {n = i} (omega (arith, length-bytes n 0 m))
-            ∙ sym (ap (λ (x : ℕ). x / 256 ^ (i % 8) % 256) (past (i / 8) (omega arith)) ∙ ap (λ (x : ℕ). x % 256) (div-eq-of-lt (one-le-pow (i % 8) 256 (zero-lt-suc 255))))
+            ∙ sym (ap (λ (x : ℕ). x / 256 ^ (i % 8) % 256) (past (i / 8) (omega arith))
+            ∙ ap (λ (x : ℕ). x % 256) (div-eq-of-lt (bytes-pos (i % 8))))
       ]
 
   pub words-bytes : wordsOf (bytesOf n m) ≡ m

@@ -44,7 +44,8 @@ pub output-refused : (j : Job) (n : ℕ) (p : Place) → build j ≡ refused n p
 unfolding outputBytes bytesOf refused
 output-refused j n p e = ap (λ (b : Built). bytesFrom (j .outputLength) 0 (b .output)) e ∙ blank-bytes (j .outputLength) 0
 
-pub job-proper : (r : Region) (cr3 cr4 o : ℕ) (words image : List ℕ) (n m : ℕ) → Bytes image → ((i : ℕ) → getD words i 0 < 2 ^ 64) → cr3 < 2 ^ 64 → o < 2 ^ 64 → Proper (jobOf r cr3 cr4 o words image n m)
+pub job-proper : (r : Region) (cr3 cr4 o : ℕ) (words image : List ℕ) (n m : ℕ)
+    → Bytes image → ((i : ℕ) → getD words i 0 < 2 ^ 64) → cr3 < 2 ^ 64 → o < 2 ^ 64 → Proper (jobOf r cr3 cr4 o words image n m)
 unfolding jobOf wordsOf
 job-proper r cr3 cr4 o words image n m b w c d =
     record { image = λ k. number-lt 8 image (8 * k) b; past = λ k h. number-past 8 image (8 * k) h; words = w; cr3 = c; offset = d }

@@ -54,10 +54,15 @@ module _ (p : ℕ) (xs ys : List ℕ) (i : ℕ) (c : Clearing p xs ys i) where
     long = length-set ys i 0 ∙ c .long;
     low = omega arith;
     before = λ k l. getD-set-other ys i k 0 0 (λ e. omega arith) ∙ c .before k l;
-    after = λ k l m. onEq k i (λ e. ap (λ (j : ℕ). getD (set ys i 0) j 0) e ∙ getD-set-same ys i 0 0 h) (λ n. getD-set-other ys i k 0 0 n ∙ c .after k l (omega arith));
+    after = λ k l m.
+        onEq k i (λ e. ap (λ (j : ℕ). getD (set ys i 0) j 0) e ∙ getD-set-same ys i 0 0 h)
+        (λ n. getD-set-other ys i k 0 0 n ∙ c .after k l (omega arith));
   }
 
   pub clearing-ends : length ys ≤ i → ys ≡ clearedFrom p xs
   clearing-ends h =
       ext-getD 0 ys (clearedFrom p xs) (c .long ∙ sym (cleared-length p xs))
-      (λ k l. elim (decLt k p) [ yes u ↦ c .before k u ∙ sym (cleared-before p xs k u) | no u ↦ c .after k (omega arith) (omega arith) ∙ sym (cleared-after p xs k (omega arith)) ])
+      (λ k l. elim (decLt k p) [
+        | yes u ↦ c .before k u ∙ sym (cleared-before p xs k u)
+        | no u ↦ c .after k (omega arith) (omega arith) ∙ sym (cleared-after p xs k (omega arith))
+      ])

@@ -1,12 +1,10 @@
 -- The leaves that pass 1 takes out are of levels below the root's height.
 -- Assumes nothing.
-use mathlib.Core.Path.{_≡_}
-use mathlib.Core.Bool.{Bool, true, false, cond}
-use mathlib.Core.List.{List, [], _∷_, List·Memᴰ, List·Memᴰ·head, List·Memᴰ·tail, List·Memᴰ·not-nil, List·Memᴰ·cases-cons}
-use mathlib.Core.Logic.{_⊎_, inl, inr, ⊎-elim}
+use mathlib.Core.List.{List·Memᴰ, List·Memᴰ·not-nil}
+use mathlib.Core.Logic.{⊎-elim}
 use Prim.Native.Nat.{ℕ, zero, suc, _+_, _*_, _≤_, _<_}
 use native.Mathlib.Omega.{arith}
-use lib.Dec.{leb, ltb}
+use lib.Dec.{leb}
 use lib.ListN.{length}
 use Rattle.definitions.specs.Words.{slot}
 use Rattle.definitions.specs.Geometry.{span}
@@ -16,17 +14,9 @@ use Rattle.definitions.specs.Pass1.{Plan, Moved, Act, keep, move, follow
 use Rattle.definitions.specs.Build.{height, firstPass, root, planOf}
 use Rattle.definitions.specs.Inputs.{Job}
 use Rattle.definitions.proofs.Step.{After, after-unless, after-times}
+use Rattle.definitions.proofs.Leaves.{remember-only}
 use Rattle.definitions.proofs.Acts.{Means, act-means}
 use Rattle.definitions.proofs.Checks.{startState}
-
-remember-only : (x : Moved) (ys : List Moved) (y : Moved) → List·Memᴰ y (remember x ys) → (y ≡ x) ⊎ List·Memᴰ y ys
-unfolding remember
-remember-only x [] y e = List·Memᴰ·cases-cons e
-remember-only x (z ∷ zs) y e = turn (ltb (x .address) (z .address)) (remember-only x zs y) e
-  where
-    turn : (b : Bool) → (List·Memᴰ y (remember x zs) → (y ≡ x) ⊎ List·Memᴰ y zs) → List·Memᴰ y (cond b (x ∷ z ∷ zs) (z ∷ remember x zs)) → (y ≡ x) ⊎ List·Memᴰ y (z ∷ zs)
-    turn true ih e = List·Memᴰ·cases-cons e
-    turn false ih e = ⊎-elim (λ d. inr (List·Memᴰ·head d)) (λ d. ⊎-elim inl (λ w. inr (List·Memᴰ·tail w)) (ih d)) (List·Memᴰ·cases-cons e)
 
 -- each leaf is of a level below h
 abbrev pub Low : ℕ → State → Type 0

@@ -1,5 +1,5 @@
 -- Adding an offset word modulo 2^64 moves by the signed number that it means, up and down, below any bound up to 2^63.
--- Assumes nothing.
+-- The offsets that the ranges give are words. Assumes nothing.
 use mathlib.Core.Path.{_≡_, refl}
 use mathlib.Core.Bool.{Bool, true, false, cond}
 use mathlib.Core.Logic.{_↔_}
@@ -66,12 +66,14 @@ module _ (a o : ℕ) (low : a < 2 ^ 63) (word : o < 2 ^ 64) where
     outside-iff = ((λ h. past-iff 1 (omega arith) .0 (omega arith)), λ out. omega (arith, past-iff 1 (omega arith) .1 out))
 
 -- the rule of number 7, in true numbers: whole tables, and the moved region within 0 and the bound
-pub offset-ok-iff : (limit : ℕ) → limit ≤ 2 ^ 63 → (r : Region) → r .gpa < 2 ^ 63 → 0 < r .size → (o : ℕ) → o < 2 ^ 64 → (offsetOk limit r o ≡ true) ↔ ((o % 4096 ≡ 0) × Fits limit (r .gpa) (r .size) (signed o))
+pub offset-ok-iff : (limit : ℕ) → limit ≤ 2 ^ 63 → (r : Region) → r .gpa < 2 ^ 63 → 0 < r .size
+    → (o : ℕ) → o < 2 ^ 64 → (offsetOk limit r o ≡ true) ↔ ((o % 4096 ≡ 0) × Fits limit (r .gpa) (r .size) (signed o))
 unfolding offsetOk
-offset-ok-iff limit most r low pos o word = (
-  (λ h. let c = offset-sound limit r o h in (c .0, fits-iff (r .gpa) o low word limit most (r .size) pos .0 (c .1))),
-  λ f. rw (eq-eqb (o % 4096) 0 (f .0), le-leb (shifted (r .gpa) o + r .size) limit (fits-iff (r .gpa) o low word limit most (r .size) pos .1 (f .1))) refl,
-)
+offset-ok-iff limit most r low pos o word =
+    let fits = fits-iff (r .gpa) o low word limit most (r .size) pos in (
+      (λ h. let c = offset-sound limit r o h in (c .0, fits .0 (c .1))),
+      λ f. rw (eq-eqb (o % 4096) 0 (f .0), le-leb (shifted (r .gpa) o + r .size) limit (fits .1 (f .1))) refl,
+    )
 
 -- ---- the offsets of the ranges are words
 

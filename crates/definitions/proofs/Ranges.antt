@@ -1,22 +1,13 @@
 -- What the rules of a region and of its offset give, in numbers.
 -- Assumes nothing.
 use mathlib.Core.Path.{_≡_}
-use mathlib.Core.Bool.{Bool, true, false, _&&_}
-use mathlib.Core.List.{List}
-use Prim.Native.Nat.{ℕ, _+_, _-_, _*_, _%_, _≤_, _<_}
-use native.Mathlib.Omega.{arith}
+use mathlib.Core.Bool.{true}
+use Prim.Native.Nat.{ℕ, _+_, _*_, _%_, _≤_}
 use lib.Dec.{eqb, leb}
-use lib.ListN.{length}
-use lib.Seq.{paste}
-use borrow.Author.Tests.{eq-eqb, ne-eqb, lt-ltb, le-ltb, le-leb, lt-leb, eqb-true, leb-true}
-use Rattle.definitions.specs.Geometry.{Geometry}
+use borrow.Author.Tests.{eqb-true, leb-true}
 use Rattle.definitions.specs.Inputs.{Region}
-use Rattle.definitions.specs.Ranges.{regionOk, within, shifted, offsetOk}
-use Rattle.definitions.specs.Load.{loaded, load}
-use Rattle.definitions.proofs.Answers.{and-l, and-r}
-
-parts : (a b : Bool) → (a && b) ≡ true → (a ≡ true) × (b ≡ true)
-parts a b e = (and-l a b e, and-r a b e)
+use Rattle.definitions.specs.Ranges.{regionOk, shifted, offsetOk}
+use Rattle.definitions.proofs.Answers.{and-both}
 
 -- a region that keeps the rules: both passes ask it of their regions
 pub record SoundRegion (limit : ℕ) (r : Region) : Type 0 where
@@ -31,12 +22,12 @@ pub record SoundRegion (limit : ℕ) (r : Region) : Type 0 where
 pub region-sound : (limit : ℕ) (r : Region) → regionOk limit r ≡ true → SoundRegion limit r
 unfolding regionOk
 region-sound limit r e =
-    let s₁ = parts _ (leb (r .gpa + r .size) limit) e in
-    let s₂ = parts _ (leb (r .used) (r .size)) (s₁ .0) in
-    let s₃ = parts _ (leb (r .size) (512 * 4096)) (s₂ .0) in
-    let s₄ = parts _ (leb 4096 (r .size)) (s₃ .0) in
-    let s₅ = parts _ (eqb (r .used % 4096) 0) (s₄ .0) in
-    let s₆ = parts (eqb (r .gpa % 4096) 0) (eqb (r .size % 4096) 0) (s₅ .0) in
+    let s₁ = and-both _ (leb (r .gpa + r .size) limit) e in
+    let s₂ = and-both _ (leb (r .used) (r .size)) (s₁ .0) in
+    let s₃ = and-both _ (leb (r .size) (512 * 4096)) (s₂ .0) in
+    let s₄ = and-both _ (leb 4096 (r .size)) (s₃ .0) in
+    let s₅ = and-both _ (eqb (r .used % 4096) 0) (s₄ .0) in
+    let s₆ = and-both (eqb (r .gpa % 4096) 0) (eqb (r .size % 4096) 0) (s₅ .0) in
     record {
       gpa = eqb-true _ _ (s₆ .0);
       size = eqb-true _ _ (s₆ .1);
@@ -49,4 +40,4 @@ region-sound limit r e =
 
 pub offset-sound : (limit : ℕ) (r : Region) (o : ℕ) → offsetOk limit r o ≡ true → (o % 4096 ≡ 0) × (shifted (r .gpa) o + r .size ≤ limit)
 unfolding offsetOk
-offset-sound limit r o e = let s = parts (eqb (o % 4096) 0) _ e in (eqb-true _ _ (s .0), leb-true _ _ (s .1))
+offset-sound limit r o e = let s = and-both (eqb (o % 4096) 0) _ e in (eqb-true _ _ (s .0), leb-true _ _ (s .1))
