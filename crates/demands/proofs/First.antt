@@ -26,13 +26,13 @@ use Rattle.definitions.proofs.Geometry.{span-pos}
 use Rattle.definitions.proofs.Leaves.{ascending-distinct}
 use Rattle.definitions.proofs.Conditions.{refuse-iff}
 use Rattle.definitions.proofs.Checks.{Good, Starts, start-says}
-use Rattle.demands.proofs.Lists.{within-length}
-use Rattle.demands.proofs.Walks.{Map}
-use Rattle.demands.proofs.Sequence.{earlier-trans, earlier-other, earlier-total, earlier-under, from-mono, table-end, entry-end}
-use Rattle.demands.proofs.Cursor.{At}
-use Rattle.demands.proofs.Insert.{Paging}
-use Rattle.demands.proofs.Visit as V1
-use Rattle.demands.proofs.Visit.{Passing, Sound, refusing, reaching, taking, filling}
+use Rattle.demands.proofs.Shared.Lists.{within-length}
+use Rattle.demands.proofs.Shared.Walks.{Map}
+use Rattle.demands.proofs.Pass1.Sequence.{earlier-trans, earlier-other, earlier-total, earlier-under, from-mono, table-end, entry-end}
+use Rattle.demands.proofs.Pass1.Cursor.{At}
+use Rattle.demands.proofs.Pass2.Insert.{Paging}
+use Rattle.demands.proofs.Pass1.Visit as V1
+use Rattle.demands.proofs.Pass1.Visit.{Passing, Sound, refusing, reaching, taking, filling}
 use Rattle.demands.proofs.Sound.{paging, passing, sound}
 use Rattle.demands.proofs.Outcome.{first-is}
 use Rattle.demands.proofs.Exact.{exact}

@@ -20,7 +20,7 @@ use Rattle.definitions.proofs.Offset.{deciding-offsets, decide-offset, target-s
 use Rattle.definitions.proofs.Checks.{bad-input-number, geometry-sound}
 use Rattle.definitions.specs.declared.Moved.{Moved}
 use Rattle.definitions.specs.declared.Place.{Place}
-use Rattle.demands.proofs.Visit.{way-part}
+use Rattle.demands.proofs.Pass1.Visit.{way-part}
 use Rattle.demands.proofs.Sound.{plan-is}
 
 part-le : (l b : ℕ) → part l b * span l ≤ b

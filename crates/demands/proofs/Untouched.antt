@@ -19,10 +19,10 @@ use Rattle.definitions.proofs.Geometry.{part-below}
 use Rattle.definitions.proofs.Ranges.{region-sound}
 use Rattle.definitions.proofs.Kind.{kind-tells}
 use Rattle.definitions.specs.declared.Moved.{Moved}
-use Rattle.demands.proofs.Insert.{at, Puts, Wrote, ended}
-use Rattle.demands.proofs.Visit.{Sound}
+use Rattle.demands.proofs.Pass2.Insert.{at, Puts, Wrote, ended}
+use Rattle.demands.proofs.Pass1.Visit.{Sound}
 use Rattle.demands.proofs.Sound.{paging, passing, sound}
-use Rattle.demands.proofs.Final.{fits, tables-before}
+use Rattle.demands.proofs.Both.{fits, tables-before}
 use Rattle.demands.proofs.Bridge.{addr, moved}
 use Rattle.demands.proofs.Outcome.{Ran, accepted-used, accepted-output}
 

@@ -10,8 +10,8 @@ use Rattle.definitions.specs.Geometry.{span}
 use Rattle.definitions.specs.Order.{Earlier}
 use Rattle.definitions.proofs.Splits.{onBool, onEq, impossible}
 use Rattle.definitions.proofs.Puts.{put-same, put-other}
-use Rattle.demands.proofs.Sequence.{earlier-trans, earlier-under, earlier-next, from-mono, table-end, entry-end}
-use Rattle.demands.proofs.Walks.{Map}
+use Rattle.demands.proofs.Pass1.Sequence.{earlier-trans, earlier-under, earlier-next, from-mono, table-end, entry-end}
+use Rattle.demands.proofs.Shared.Walks.{Map}
 
 -- entry i, of level l, of the table t, which is seen
 pub record At (R : Tables) (P : Map) (t l i : ℕ) : Type 0 where

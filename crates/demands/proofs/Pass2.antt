@@ -1,0 +1,5 @@
+-- Pass 2.
+pub mod Insert
+pub mod Growth
+pub mod Merges
+pub mod Leaves
