@@ -21,7 +21,7 @@ use Rattle.definitions.proofs.Ranges.{region-sound}
 use Rattle.definitions.proofs.Acts.{Means, act-means}
 use Rattle.definitions.proofs.Buffers.{words-bytes}
 use Rattle.definitions.specs.declared.Moved.{Moved}
-use Rattle.demands.proofs.Pass2.Insert.{Puts}
+use Rattle.demands.proofs.Pass2.Leaf.{Puts}
 use Rattle.demands.proofs.Sound.{paging, plan-is, sound, moved-pointer, new-table}
 use Rattle.demands.proofs.Bridge.{moved, old}
 use Rattle.demands.proofs.Exact.{used-fits}

@@ -30,7 +30,7 @@ use Rattle.demands.proofs.Shared.Lists.{within-length}
 use Rattle.demands.proofs.Shared.Walks.{Map}
 use Rattle.demands.proofs.Pass1.Sequence.{earlier-trans, earlier-other, earlier-total, earlier-under, from-mono, table-end, entry-end}
 use Rattle.demands.proofs.Pass1.Cursor.{At}
-use Rattle.demands.proofs.Pass2.Insert.{Paging}
+use Rattle.demands.proofs.Shared.Paging.{Paging}
 use Rattle.demands.proofs.Pass1.Visit as V1
 use Rattle.demands.proofs.Pass1.Visit.{Passing, Sound, refusing, reaching, taking, filling}
 use Rattle.demands.proofs.Sound.{paging, passing, sound}

@@ -19,7 +19,8 @@ use Rattle.definitions.proofs.Geometry.{part-below}
 use Rattle.definitions.proofs.Ranges.{region-sound}
 use Rattle.definitions.proofs.Kind.{kind-tells}
 use Rattle.definitions.specs.declared.Moved.{Moved}
-use Rattle.demands.proofs.Pass2.Insert.{at, Puts, Wrote, ended}
+use Rattle.demands.proofs.Shared.Paging.{at, ended}
+use Rattle.demands.proofs.Pass2.Leaf.{Puts, Wrote}
 use Rattle.demands.proofs.Pass1.Visit.{Sound}
 use Rattle.demands.proofs.Sound.{paging, passing, sound}
 use Rattle.demands.proofs.Both.{fits, tables-before}
