@@ -17,7 +17,7 @@ use Rattle.definitions.proofs.Puts.{put-same, put-other}
 use Rattle.definitions.proofs.Geometry.{part-step}
 use Rattle.definitions.specs.declared.Moved.{Moved}
 use Rattle.definitions.specs.declared.Place.{Place}
-use Rattle.demands.proofs.Shared.Walks.{Map, On, Down, word, stop-cont, cont-none, cont-some}
+use Rattle.demands.proofs.Shared.Walks.{Map, stand, On, Down, word, stop-cont, cont-none, cont-some}
 use Rattle.demands.proofs.Shared.Paging.{Paging, kindIn, linkIn, sizeIn, Lawful, at, walk, Addr, Good}
 use Rattle.demands.proofs.Pass2.Leaf.{Fit, puts-wide, Blocked, leafWay, pastWay, differs, full, Ok, Comes}
 use Rattle.demands.proofs.Pass2.Write.{stops, nothing-there, onto, either, pointed}
@@ -62,7 +62,7 @@ module _ {W : Paging} (X : Lawful W) {x : Moved} (fit : Fit W x) where
     m₂ = put m k (linkIn W u)
 
     abbrev P₂ : Map
-    P₂ = record { ht = put (G .P .ht) u l; pre = put (G .P .pre) u (part l a) }
+    P₂ = stand (G .P) u l (part l a)
 
     link-there : kind l (m₂ k) ≡ table u
     link-there = rw (put-same m k (linkIn W u) k refl) (link-table l u hl room)
