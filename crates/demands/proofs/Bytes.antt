@@ -22,10 +22,10 @@ use Rattle.definitions.proofs.Acts.{Means, act-means}
 use Rattle.definitions.proofs.Buffers.{words-bytes}
 use Rattle.definitions.specs.declared.Moved.{Moved}
 use Rattle.demands.proofs.Pass2.Leaf.{Puts}
-use Rattle.demands.proofs.Sound.{paging, plan-is, sound, moved-pointer, new-table}
-use Rattle.demands.proofs.Bridge.{moved, old}
+use Rattle.demands.proofs.Both.Sound.{paging, plan-is, sound, moved-pointer, new-table}
+use Rattle.demands.proofs.Both.Bridge.{moved, old}
 use Rattle.demands.proofs.Exact.{used-fits}
-use Rattle.demands.proofs.Outcome.{Ran, accepts, accepted-output}
+use Rattle.demands.proofs.Both.Outcome.{Ran, accepts, accepted-output}
 
 module _ (j : Job) (proper : Proper j) (R : Ran j (build j)) where
   -- what pass 1 leaves

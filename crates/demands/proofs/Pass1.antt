@@ -1,4 +1,15 @@
 -- Pass 1.
+pub mod Visit
+pub mod Passing
+pub mod Ways
 pub mod Sequence
 pub mod Cursor
-pub mod Visit
+pub mod Invariant
+pub mod Sources
+pub mod Steps
+pub mod Entry
+pub mod Tables
+pub mod Reached
+pub mod Result
+pub mod First
+pub mod OneFirst

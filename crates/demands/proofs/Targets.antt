@@ -20,8 +20,8 @@ use Rattle.definitions.proofs.Offset.{deciding-offsets, decide-offset, target-s
 use Rattle.definitions.proofs.Checks.{bad-input-number, geometry-sound}
 use Rattle.definitions.specs.declared.Moved.{Moved}
 use Rattle.definitions.specs.declared.Place.{Place}
-use Rattle.demands.proofs.Pass1.Visit.{way-part}
-use Rattle.demands.proofs.Sound.{plan-is}
+use Rattle.demands.proofs.Pass1.Ways.{way-part}
+use Rattle.demands.proofs.Both.Sound.{plan-is}
 
 part-le : (l b : ℕ) → part l b * span l ≤ b
 unfolding part

@@ -21,11 +21,11 @@ use Rattle.definitions.proofs.Kind.{kind-tells}
 use Rattle.definitions.specs.declared.Moved.{Moved}
 use Rattle.demands.proofs.Shared.Paging.{at, ended}
 use Rattle.demands.proofs.Pass2.Leaf.{Puts, Wrote}
-use Rattle.demands.proofs.Pass1.Visit.{Sound}
-use Rattle.demands.proofs.Sound.{paging, passing, sound}
-use Rattle.demands.proofs.Both.{fits, tables-before}
-use Rattle.demands.proofs.Bridge.{addr, moved}
-use Rattle.demands.proofs.Outcome.{Ran, accepted-used, accepted-output}
+use Rattle.demands.proofs.Pass1.Passing.{Sound}
+use Rattle.demands.proofs.Both.Sound.{paging, passing, sound}
+use Rattle.demands.proofs.Both.Passes.{fits, tables-before}
+use Rattle.demands.proofs.Both.Bridge.{addr, moved}
+use Rattle.demands.proofs.Both.Outcome.{Ran, accepted-used, accepted-output}
 
 -- a walk that finds nothing ends at an absent entry
 end-absent : (k : Kind) (l e : ℕ) → endOf k l e ≡ nothing → k ≡ absent
@@ -36,7 +36,7 @@ end-absent outside l e w = impossible (cc)
 end-absent (table t) l e w = impossible (cc)
 
 module _ (j : Job) (proper : Proper j) (R : Ran j (build j)) where
-  S : Sound (paging j) (passing j)
+  S : Sound (passing j)
   S = sound j proper (R .good)
 
   abbrev m₁ : Mem
@@ -59,7 +59,7 @@ module _ (j : Job) (proper : Proper j) (R : Ran j (build j)) where
     -- the table is reached, and the entry maps the new address of x
     stands : (R .fixed .good .P .ht t ≡ suc level) × (R .fixed .good .P .pre t * 512 + i ≡ part level (x .address))
     stands =
-        let d = ended (paging j) (S .lawful) m₁ u (R .fixed .good) (x .address) (fits (paging j) (passing j) S (R .s) (R .fixed) x (R .fixed .sound x e) .address) in
+        let d = ended (paging j) (S .lawful) m₁ u (R .fixed .good) (x .address) (fits S (R .fixed) x (R .fixed .sound x e) .address) in
         let et : at (paging j) m₁ (x .address) .at / 512 ≡ t = omega (arith, w .place) in
         let ei : at (paging j) m₁ (x .address) .at % 512 ≡ i = omega (arith, w .place) in
         (rw et at (d .height), rw (et, ei) at (d .prefix))
@@ -98,7 +98,7 @@ module _ (j : Job) (proper : Proper j) (R : Ran j (build j)) where
   entries t l p i way hi =
       let c = R .fixed .ways way (omega arith) in
       let r = R .fixed .read t (c .0) in
-      let lt = tables-before (paging j) (passing j) S (R .s) (R .fixed) (r .0) (r .1) t (r .2) in
+      let lt = tables-before S (R .fixed) (r .0) (r .1) t (r .2) in
       let left = R .fixed .entries t l p i way hi in
       ⊎-elim (λ e. inl (at-word (512 * t + i) ∙ e ∙ left))
       (λ w. inr (rw left at (was-absent (w .0) (w .1) t i _ hi (w .2)), rw (at-word (512 * t + i)) (written-at (w .0) (w .1) t i _ hi (w .2) l p (c .1) (c .2))))
