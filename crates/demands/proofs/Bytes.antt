@@ -24,7 +24,7 @@ use Rattle.definitions.specs.declared.Moved.{Moved}
 use Rattle.demands.proofs.Pass2.Leaf.{Puts}
 use Rattle.demands.proofs.Both.Sound.{paging, plan-is, sound, moved-pointer, new-table}
 use Rattle.demands.proofs.Both.Bridge.{moved, old}
-use Rattle.demands.proofs.Exact.{used-fits}
+use Rattle.demands.proofs.Both.Left.{used-fits}
 use Rattle.demands.proofs.Both.Outcome.{Ran, accepts, accepted-output}
 
 module _ (j : Job) (proper : Proper j) (R : Ran j (build j)) where
@@ -59,7 +59,7 @@ module _ (j : Job) (proper : Proper j) (R : Ran j (build j)) where
       let d = old j (o .0) x (moved j x o) in
       ⊎-elim
       (λ c. rw (c .1, d .entry) (leaf-word (x .level) (entryBefore j (o .0)) (x .address) (d .low) (d .whole) (d .field) (proper .image _)))
-      (λ c. rw (c .4) (omega (arith, new-table j proper (R .good) (c .1) (omega (arith, c .3, R .filled .fits (used-fits j proper (R .good) (R .s) (R .fixed)))))))
+      (λ c. rw (c .4) (omega (arith, new-table j proper (R .good) (c .1) (omega (arith, c .3, R .filled .fits (used-fits j (R .good)))))))
       p
 
   word : (k : ℕ) → R .f .mem k < 2 ^ 64
@@ -74,7 +74,7 @@ module _ (j : Job) (proper : Proper j) (R : Ran j (build j)) where
   unfolding allTables
   past k h =
       let a = region-sound (geometry j .limit) (j .region) (R .good .region) in
-      R .filled .good .free k (omega (arith, R .good .output, a .size, plan-is j .size, R .filled .fits (used-fits j proper (R .good) (R .s) (R .fixed))))
+      R .filled .good .free k (omega (arith, R .good .output, a .size, plan-is j .size, R .filled .fits (used-fits j (R .good))))
 
 pub output-words : (j : Job) → Proper j → build j .report .number ≡ 0 → wordsOf (outputBytes j) ≡ build j .output
 unfolding outputBytes
