@@ -13,9 +13,8 @@ use Rattle.definitions.specs.Build.{height, planOf, secondPass, start, accepted
 use Rattle.definitions.specs.Demand.{Proper}
 use Rattle.definitions.specs.Conditions.{BadInput, badRegion, badImage, badOutput, badLevels, badRoot, badOffset, badList, badRanges, freeRoot, None}
 use Rattle.definitions.specs.Conditions.{BadEntry, inTail, intoMoved, notWhole, tooFar}
-use Rattle.definitions.specs.Conditions.{BadTables, BadPlaces, onLeaf, inSpan, onPast, onTable, onOther, noRoom}
+use Rattle.definitions.specs.Conditions.{BadTables, BadPlaces}
 use Rattle.definitions.specs.Order.{refused, toRoot, toSame, taken, full, FirstBad, InOrder}
-use Rattle.definitions.proofs.Conditions.{refuse-iff}
 use Rattle.definitions.proofs.Checks.{Good, Starts, start-says}
 use Rattle.demands.proofs.Pass1.Passing.{Passed, pass1}
 use Rattle.demands.proofs.Pass1.Tables.{Halted, pass1-halts}
@@ -23,6 +22,7 @@ use Rattle.demands.proofs.Pass1.Result.{pass1-ok}
 use Rattle.demands.proofs.Pass1.First.{Met, Wrong, first-halt, none-wrong}
 use Rattle.demands.proofs.Pass1.OneFirst.{first-one}
 use Rattle.demands.proofs.Both.Sound.{passing, sound}
+use Rattle.demands.proofs.Both.Numbers.{entry-bad, places-number}
 use Rattle.demands.proofs.Both.Outcome.{first-is}
 use Rattle.demands.proofs.Exact.{exact}
 
@@ -70,14 +70,6 @@ input-nine j n q (badList e) = inl (omega arith)
 input-nine j n q (badRanges e) = inl (omega arith)
 input-nine j n q (freeRoot e) = inr (refl, refl)
 
-places-number : (j : Job) (n : ℕ) (q : Place) → BadPlaces j n q → 16 ≤ n
-places-number j n q (onLeaf m lo w st) = omega arith
-places-number j n q (inSpan m land lo) = omega arith
-places-number j n q (onPast m lo w) = omega arith
-places-number j n q (onTable m lo) = omega arith
-places-number j n q (onOther m el st there other) = omega arith
-places-number j n q (noRoom m lo le ps d need h) = omega arith
-
 bad-place : {p : Plan} {l a e n : ℕ} {q : Place} → BadEntry p l a e n q → (q .address ≡ a) × (q .level ≡ l)
 bad-place (inTail ek h) = (refl, refl)
 bad-place (intoMoved ek w) = (refl, refl)
@@ -86,7 +78,7 @@ bad-place (tooFar ek ed eo h) = (refl, refl)
 
 -- the place is that of the entry
 place-of : (j : Job) (n : ℕ) (q : Place) (e : Met (passing j)) → Wrong (passing j) e n q → (q .address ≡ (e .p * 512 + e .i) * span (e .l)) × (q .level ≡ e .l)
-place-of j n q e (refused w) = bad-place (refuse-iff (planOf j) (e .l) ((e .p * 512 + e .i) * span (e .l)) (j .image (512 * e .t + e .i)) n q .0 w)
+place-of j n q e (refused w) = bad-place (entry-bad j (e .t) (e .l) (e .p) (e .i) n q w)
 place-of j n q e (toRoot w z) = rw z (refl, refl)
 place-of j n q e (toSame w b r wb z) = rw z (refl, refl)
 place-of j n q e (taken w b r wb ea z) = rw z (refl, refl)

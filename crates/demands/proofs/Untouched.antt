@@ -1,5 +1,5 @@
 -- What an accepted build leaves alone: tables that no walk reads, entries that no move touches, the free tail
--- (untouched). Assumes nothing.
+-- (untouched). On Both. Assumes nothing.
 use Prim.Native.Nat.{ℕ, suc, _+_, _*_, _/_, _%_, _≤_, _<_}
 use mathlib.Core.Path.{_≡_, refl, sym, _∙_, ap}
 use mathlib.Core.Bool.{true, false}
@@ -101,7 +101,10 @@ module _ (j : Job) (proper : Proper j) (R : Ran j (build j)) where
       let lt = tables-before S (R .fixed) (r .0) (r .1) t (r .2) in
       let left = R .fixed .entries t l p i way hi in
       ⊎-elim (λ e. inl (at-word (512 * t + i) ∙ e ∙ left))
-      (λ w. inr (rw left at (was-absent (w .0) (w .1) t i _ hi (w .2)), rw (at-word (512 * t + i)) (written-at (w .0) (w .1) t i _ hi (w .2) l p (c .1) (c .2))))
+      (λ w. inr (
+        rw left at (was-absent (w .0) (w .1) t i _ hi (w .2)),
+        rw (at-word (512 * t + i)) (written-at (w .0) (w .1) t i _ hi (w .2) l p (c .1) (c .2)),
+      ))
       (R .filled .words (512 * t + i) (omega arith))
 
   fresh : (k : ℕ) → j .region .used ≤ 8 * k → (build j .output k ≡ 0) ⊎ ((l : ℕ) × (p : ℕ) × Written j l p (build j .output k))
@@ -112,4 +115,11 @@ module _ (j : Job) (proper : Proper j) (R : Ran j (build j)) where
       (R .filled .news k (omega (arith, region-sound (geometry j .limit) (j .region) (R .good .region) .used))))
 
   pub untouched : Untouched j
-  untouched = record { read = read-iff; unread = unread; entries = entries; fresh = fresh; zeros = λ k h. at-word k ∙ R .filled .good .free k (omega (arith, accepted-used j R)) }
+  untouched =
+      record {
+        read = read-iff;
+        unread = unread;
+        entries = entries;
+        fresh = fresh;
+        zeros = λ k h. at-word k ∙ R .filled .good .free k (omega (arith, accepted-used j R));
+      }

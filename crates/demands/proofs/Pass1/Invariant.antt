@@ -77,7 +77,8 @@ doneAt-grow K s s′ P P′ g t l i st em d =
 abbrev pub become : State → Mem → List Moved → State
 become s m ms = record { mem = m; reached = s .reached; moved = ms }
 
-module _ {K : Passing} {s : State} {P : Map} {c : ℕ → ℕ} (I : Inv K s P c) {t l i : ℕ} (a : At (s .reached) P t l i) (ci : c t ≡ i) (m₁ : Mem) (ms : List Moved) where
+module _ {K : Passing} {s : State} {P : Map} {c : ℕ → ℕ} (I : Inv K s P c) {t l i : ℕ} (a : At (s .reached) P t l i) (ci : c t ≡ i)
+    (m₁ : Mem) (ms : List Moved) where
   abbrev s₁ : State
   s₁ = become s m₁ ms
 
@@ -127,7 +128,8 @@ mark-grow s P t h p new =
 pub seen-back : (s : State) (t t₁ : ℕ) (b : Bool) → put (s .reached) t true t₁ ≡ b → ¬ (t₁ ≡ t) → s .reached t₁ ≡ b
 seen-back s t t₁ b e n = sym (put-other (s .reached) t true t₁ n) ∙ e
 
-module _ {K : Passing} {s : State} {P : Map} {c : ℕ → ℕ} (I : Inv K s P c) (t h p : ℕ) (low : t < K .used) (new : s .reached t ≡ false) (way : Way K t h p) where
+module _ {K : Passing} {s : State} {P : Map} {c : ℕ → ℕ} (I : Inv K s P c) (t h p : ℕ)
+    (low : t < K .used) (new : s .reached t ≡ false) (way : Way K t h p) where
   pub mark : Inv K (seeing s t) (stand P t h p) (put c t 0)
   mark =
       record {

@@ -44,7 +44,9 @@ module _ {K : Passing} (S : Sound K) {s : State} {P : Map} (I : Inv K s P (λ t.
 
   step : (l t b : ℕ) → Seen s P t (suc l) (part (suc l) b) → Halts l t b ⊎ Leads l t b
   unfolding tableOf
-  step l t b z = turn (act l (part l b) (m₀ (word t l b))) refl (rw pe at (I .done t l (part l b % 512) (record { seen = z .0; height = z .1; low = omega arith }) (omega arith)))
+  step l t b z =
+      turn (act l (part l b) (m₀ (word t l b))) refl
+      (rw pe at (I .done t l (part l b % 512) (record { seen = z .0; height = z .1; low = omega arith }) (omega arith)))
     where
       pe : P .pre t * 512 + part l b % 512 ≡ part l b
       pe = omega (arith, part-step l b, z .2)

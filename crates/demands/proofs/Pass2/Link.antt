@@ -29,7 +29,9 @@ pub record Linked (W : Paging) (x : Moved) (m m₁ : Mem) (u : ℕ) : Type 0 whe
   none-there : walk W m (x .address) ≡ nothing
   step : (b : ℕ) → Addr W b
       → (at W m₁ b .level ≡ at W m b .level)
-      ⊎ ((suc (at W m₁ b .level) ≡ at W m b .level) × (part (at W m b .level) b ≡ part (at W m b .level) (x .address)) × (at W m b .level ≡ at W m (x .address) .level))
+      ⊎ ((suc (at W m₁ b .level) ≡ at W m b .level)
+      × (part (at W m b .level) b ≡ part (at W m b .level) (x .address))
+      × (at W m b .level ≡ at W m (x .address) .level))
   further : (b : ℕ) → Addr W b → (at W m₁ b ≡ at W m b) ⊎ (512 * u ≤ at W m₁ b .at)
   lands : 512 * u ≤ at W m₁ (x .address) .at
   off : (k : ℕ) → ¬ (k ≡ at W m (x .address) .at) → m₁ k ≡ m k
@@ -135,14 +137,16 @@ module _ {W : Paging} (X : Lawful W) {x : Moved} (fit : Fit W x) where
         there : at W m a ≡ spot l k
         there = stops X fit C ek a refl
 
-        touched : (b : ℕ) → Addr W b → ((at W m₂ b ≡ at W m b) × (walk W m₂ b ≡ walk W m b)) ⊎ ((at W m b ≡ spot l k) × (part l b ≡ part l a) × (walk W m b ≡ nothing))
+        touched : (b : ℕ) → Addr W b
+            → ((at W m₂ b ≡ at W m b) × (walk W m₂ b ≡ walk W m b)) ⊎ ((at W m b ≡ spot l k) × (part l b ≡ part l a) × (walk W m b ≡ nothing))
         touched = either X fit C ek (linkIn W u)
 
         found : (b : ℕ) → (endAt kind m₂ (stopOf kind l m₂ u b) ≡ nothing) × (suc (stopOf kind l m₂ u b .level) ≡ l) × (512 * u ≤ stopOf kind l m₂ u b .at)
         found b = fresh l m₂ u b hl empty
 
 -- what is done from `g` on, where a fresh table is linked, is done from `f` on
-module _ (W : Paging) (x : Moved) (ra : Addr W (x .address)) (f g : Fill) (eu : g .next ≡ suc (f .next)) (em : g .merged ≡ f .merged) (room : f .next < sizeIn W)
+module _ (W : Paging) (x : Moved) (ra : Addr W (x .address)) (f g : Fill)
+    (eu : g .next ≡ suc (f .next)) (em : g .merged ≡ f .merged) (room : f .next < sizeIn W)
     (w : Linked W x (f .mem) (g .mem) (f .next)) (hl : x .level < at W (f .mem) (x .address) .level) where
   open Moved x using (address as a)
 
