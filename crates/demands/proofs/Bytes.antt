@@ -22,7 +22,7 @@ use Rattle.definitions.proofs.Acts.{Means, act-means}
 use Rattle.definitions.proofs.Buffers.{words-bytes}
 use Rattle.definitions.specs.declared.Moved.{Moved}
 use Rattle.demands.proofs.Pass2.Leaf.{Puts}
-use Rattle.demands.proofs.Both.Sound.{paging, plan-is, sound, moved-pointer, new-table}
+use Rattle.demands.proofs.Both.Sound.{paging, plan-is, moved-pointer, new-table}
 use Rattle.demands.proofs.Both.Bridge.{moved, old}
 use Rattle.demands.proofs.Both.Left.{used-fits}
 use Rattle.demands.proofs.Both.Outcome.{Ran, accepts, accepted-output}

@@ -1,6 +1,6 @@
 -- A refusal of pass 1 is the first in walk order (in-order), and the first in walk order is what is reported. On Pass1.First, Pass1.OneFirst
 -- and Exact. Assumes nothing.
-use Prim.Native.Nat.{ℕ, suc, _+_, _*_, _<_, _≤_}
+use Prim.Native.Nat.{ℕ, _+_, _*_, _<_}
 use mathlib.Core.Path.{_≡_, refl}
 use mathlib.Core.Logic.{_⊎_, inl, inr, ⊎-elim}
 use native.Mathlib.Omega.{arith}
@@ -9,7 +9,7 @@ use Rattle.definitions.specs.Inputs.{Job, Built}
 use Rattle.definitions.specs.declared.Place.{Place}
 use Rattle.definitions.specs.Step.{Step, go, stop, andThen}
 use Rattle.definitions.specs.Pass1.{Plan, State}
-use Rattle.definitions.specs.Build.{height, planOf, secondPass, start, accepted, refused as refusedBuild, result, passes, build}
+use Rattle.definitions.specs.Build.{height, secondPass, start, accepted, refused as refusedBuild, result, passes, build}
 use Rattle.definitions.specs.Demand.{Proper}
 use Rattle.definitions.specs.Conditions.{BadInput, badRegion, badImage, badOutput, badLevels, badRoot, badOffset, badList, badRanges, freeRoot, None}
 use Rattle.definitions.specs.Conditions.{BadEntry, inTail, intoMoved, notWhole, tooFar}

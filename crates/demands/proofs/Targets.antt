@@ -11,7 +11,7 @@ use Rattle.definitions.specs.Ranges.{shift, decide, shifted}
 use Rattle.definitions.specs.Offset.{signed, Fits}
 use Rattle.definitions.specs.Pass1.{refuse, act}
 use Rattle.definitions.specs.Build.{geometry, height, planOf}
-use Rattle.definitions.specs.Demand.{Proper, Reached, stopBefore, entryBefore, fate, Moves, MovedBy}
+use Rattle.definitions.specs.Demand.{Proper, Reached, stopBefore, entryBefore, Moves, MovedBy}
 use Rattle.definitions.specs.Conditions.{BadEntry, inTail, intoMoved, notWhole, tooFar, BadTables, bad, again, twice, taken, crowded, Refusal, TooFar}
 use Rattle.definitions.proofs.Geometry.{span-pos, part-step, part-first, part-below}
 use Rattle.definitions.proofs.Acts.{MovesAs}

@@ -6,7 +6,6 @@ use mathlib.Core.List.{List, [], _∷_, _++_, List·Memᴰ, List·Memᴰ·head, 
 use mathlib.Core.Logic.{_⊎_, inl, inr, ⊎-elim}
 use native.Mathlib.Decide.{decLe}
 use native.Mathlib.Omega.{arith}
-use Rattle.definitions.specs.Words.{Mem}
 use Rattle.definitions.specs.Geometry.{part}
 use Rattle.definitions.specs.Inputs.{Job, placeAt}
 use Rattle.definitions.specs.Ranges.{Kind, kind, usedTables, allTables}

@@ -1,6 +1,6 @@
 -- Pass 1, one entry (entry-ok): it is kept, its leaf is taken out (moves), or its table is marked and visited (follows), and the cursor of
 -- its table moves by one; or pass 1 stops at it (halt). On Steps. Assumes nothing.
-use Prim.Native.Nat.{ℕ, suc, _+_, _*_, _<_, _≤_}
+use Prim.Native.Nat.{ℕ, suc, _+_, _*_, _≤_}
 use mathlib.Core.Path.{_≡_, refl, sym, _∙_, ap}
 use mathlib.Core.List.{List, List·Memᴰ}
 use mathlib.Core.Bool.{Bool, true, false}

@@ -1,6 +1,6 @@
 -- Pass 1, walk order: there is one first entry at which something is wrong, and one number and place for it (first-one). On First.
 -- Assumes nothing.
-use Prim.Native.Nat.{ℕ, suc, _+_, _*_}
+use Prim.Native.Nat.{ℕ, suc, _*_}
 use mathlib.Core.Path.{_≡_, refl, sym, _∙_, ap}
 use mathlib.Core.Logic.{_⊎_, inl, inr, ⊎-elim}
 use native.Mathlib.Nat.{eq-of-mul-eq-mul-right}

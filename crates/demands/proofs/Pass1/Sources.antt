@@ -1,6 +1,6 @@
 -- Pass 1, where what it holds comes from (Hist): each table that is seen and each leaf that is moved has an entry that is done and called
 -- for it (Src), and no two leaves have one address. It holds after a step (step-hist). On Invariant. Assumes nothing.
-use Prim.Native.Nat.{ℕ, suc, _+_, _*_, _<_, _≤_}
+use Prim.Native.Nat.{ℕ, _+_, _*_, _<_, _≤_}
 use mathlib.Core.Path.{_≡_, refl, sym, _∙_}
 use mathlib.Core.Option.{some}
 use mathlib.Core.List.{List·Memᴰ}

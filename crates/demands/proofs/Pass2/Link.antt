@@ -2,7 +2,6 @@
 -- (link-comes), and what is done from there on is done from here on (from). On Leaf and Write. Assumes nothing.
 use Prim.Native.Nat.{ℕ, zero, suc, _+_, _*_, _%_, _<_, _≤_}
 use mathlib.Core.Path.{_≡_, refl, sym, _∙_, ap}
-use mathlib.Core.Option.{some}
 use mathlib.Core.Logic.{_⊎_, inl, inr, ⊎-elim}
 use native.Mathlib.Decide.{decLe}
 use native.Mathlib.Omega.{arith}
@@ -18,7 +17,7 @@ use Rattle.definitions.proofs.Geometry.{part-step}
 use Rattle.definitions.specs.declared.Moved.{Moved}
 use Rattle.definitions.specs.declared.Place.{Place}
 use Rattle.demands.proofs.Shared.Walks.{Map, stand, On, Down, word, stop-cont, cont-none, cont-some}
-use Rattle.demands.proofs.Shared.Paging.{Paging, kindIn, linkIn, sizeIn, Lawful, at, walk, Addr, Good}
+use Rattle.demands.proofs.Shared.Paging.{Paging, kindIn, linkIn, sizeIn, Lawful, at, walk, Addr}
 use Rattle.demands.proofs.Pass2.Leaf.{Fit, puts-wide, Blocked, leafWay, pastWay, differs, full, Ok, Comes}
 use Rattle.demands.proofs.Pass2.Write.{stops, nothing-there, onto, either, pointed}
 

@@ -1,6 +1,6 @@
 -- Pass 2, one entry on the way to a leaf's new address: which walks its change touches (either), and the leaf at it, where it stood
 -- already (same-ok) or is written (write-ok). On Leaf. Assumes nothing.
-use Prim.Native.Nat.{ℕ, suc, _+_, _*_, _/_, _%_, _<_, _≤_}
+use Prim.Native.Nat.{ℕ, suc, _+_, _*_, _/_, _%_, _<_}
 use mathlib.Core.Path.{_≡_, refl, sym, _∙_, ap}
 use mathlib.Core.Option.{none, some}
 use mathlib.Core.Logic.{_⊎_, inl, inr, ⊎-elim}
