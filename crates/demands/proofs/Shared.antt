@@ -1,7 +1,8 @@
 -- What both passes share.
--- Lists: a list with no element twice
+
+-- Lists: lists with no element twice
 pub mod Lists
 -- Walks: the walk of an address through tables in a memory of words
 pub mod Walks
--- Paging: the words in which both passes are spoken of
+-- Paging: the words of both passes: tables at their new place, the walk in them, what holds of them between any two moves
 pub mod Paging

@@ -80,7 +80,7 @@ module _ (j : Job) (proper : Proper j) (R : Ran j (build j)) where
 
   read-iff : (t : ℕ) → IsRead j t ↔ ((l : ℕ) × (p : ℕ) × Reached j t (suc l) p)
   unfolding readsBefore
-  read-iff t = ((λ r. R .fixed .way t (R .fixed .seen (r .0) (addr j (r .0) (r .1)) t (r .2))), λ w. is-read t (R .fixed .ways (w .2) (omega arith) .0))
+  read-iff t = ((λ r. R .fixed .way t (R .fixed .seen (r .0) (addr j (r .0) (r .1)) t (r .2))), λ w. is-read t (R .fixed .ways (w .2) (omega arith) .seen))
 
   at-word : (k : ℕ) → build j .output k ≡ R .f .mem k
   at-word k = ap (λ (m : Mem). m k) (accepted-output j R)
@@ -97,13 +97,13 @@ module _ (j : Job) (proper : Proper j) (R : Ran j (build j)) where
   entries : (t l p i : ℕ) → Reached j t (suc l) p → i < 512 → Became j l (p * 512 + i) (j .image (512 * t + i)) (build j .output (512 * t + i))
   entries t l p i way hi =
       let c = R .fixed .ways way (omega arith) in
-      let r = R .fixed .read t (c .0) in
+      let r = R .fixed .read t (c .seen) in
       let lt = tables-before S (R .fixed) (r .0) (r .1) t (r .2) in
       let left = R .fixed .entries t l p i way hi in
       ⊎-elim (λ e. inl (at-word (512 * t + i) ∙ e ∙ left))
       (λ w. inr (
         rw left at (was-absent (w .0) (w .1) t i _ hi (w .2)),
-        rw (at-word (512 * t + i)) (written-at (w .0) (w .1) t i _ hi (w .2) l p (c .1) (c .2)),
+        rw (at-word (512 * t + i)) (written-at (w .0) (w .1) t i _ hi (w .2) l p (c .height) (c .prefix)),
       ))
       (R .filled .words (512 * t + i) (omega arith))
 

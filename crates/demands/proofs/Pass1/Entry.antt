@@ -23,7 +23,7 @@ use Rattle.definitions.proofs.Misreadings.{cleared, marked}
 use Rattle.definitions.specs.declared.Moved.{Moved}
 use Rattle.definitions.specs.declared.Place.{Place}
 use Rattle.demands.proofs.Shared.Walks.{Map, stand}
-use Rattle.demands.proofs.Pass1.Passing.{Passing, actAs, Sound, said, Way}
+use Rattle.demands.proofs.Pass1.Passing.{Passing, actAs, Sound, said, Seen, Way}
 use Rattle.demands.proofs.Pass1.Cursor.{At, Ahead, same-level, sorted-plain, ahead-under, sorted-follow}
 use Rattle.demands.proofs.Pass1.Invariant.{DoneAt, Inv, apart, Grow, grow-moved, grow-trans, at-grow, become, advance, seeing, seen-back, mark-grow, mark}
 use Rattle.demands.proofs.Pass1.Sources.{Src, Hist, All, New, step-hist}
@@ -137,12 +137,15 @@ module _ {K : Passing} (S : Sound K) {s : State} {P : Map} {c : ℕ → ℕ} (F 
     cursor-same : (t₁ : ℕ) → ¬ (t₁ ≡ t) → ¬ (t₁ ≡ t′) → c₂ t₁ ≡ c t₁
     cursor-same t₁ n₁ n₂ = put-other (put c t′ 0) t (suc i) t₁ n₁ ∙ put-other c t′ 0 t₁ n₂
 
+    seen₂ : Seen s₂ P₂ t′ l p
+    seen₂ = record { seen = marked k t′ v s; height = put-same (P .ht) t′ l t′ refl; prefix = put-same (P .pre) t′ p t′ refl }
+
     inv₂ : Inv K s₂ P₂ c₂
     inv₂ =
         advance (mark I t′ l p (said S l p (K .m₀ k) _ ea .2) eb way) at₂ (put-other c t′ 0 t (λ w. other (sym w)) ∙ ci) (put (s .mem) k v) (s .moved)
         (λ x e. e)
         (put-other (s .mem) k v)
-        (rw (pre-same, ea) (put-same (s .mem) k v k refl, marked k t′ v s, put-same (P .ht) t′ l t′ refl, put-same (P .pre) t′ p t′ refl))
+        (rw (pre-same, ea) (put-same (s .mem) k v k refl, seen₂))
 
     me : Src K s₂ P₂ c₂ (follow t′ v)
     me = record { t = t; l = l; i = i; at = at₂; done = omega (arith, cursor); acted = rw pre-same ea }
@@ -175,8 +178,7 @@ module _ {K : Passing} (S : Sound K) {s : State} {P : Map} {c : ℕ → ℕ} (F 
     followed on ih =
         grow-ok K c⁺ grown (on t′ p s₂)
         (rw cursors at (ih t′ p s₂ P₂ c₂ (record { inv = inv₂; hist = hist₂ }) cursor′
-        (marked k t′ v s, put-same (P .ht) t′ l t′ refl, put-same (P .pre) t′ p t′ refl)
-        (said S l p (K .m₀ k) _ ea .3) (ahead-under c at ci ah t′ eb)))
+        seen₂ (said S l p (K .m₀ k) _ ea .3) (ahead-under c at ci ah t′ eb)))
 
   follows : (on : ℕ → ℕ → State → Step State) → Visits K l on → (v t′ : ℕ) → actAs K l p k ≡ follow t′ v → (b : Bool) → s .reached t′ ≡ b
       → Ok K s P c⁺ (unless b 10 q (on t′ p (pointed k t′ v s)))

@@ -19,12 +19,12 @@ use Rattle.definitions.specs.declared.Place.{Place}
 use Rattle.demands.proofs.Shared.Lists.{within-length}
 use Rattle.demands.proofs.Shared.Walks.{Map}
 use Rattle.demands.proofs.Shared.Paging.{Paging}
-use Rattle.demands.proofs.Pass1.Passing.{Passing, actAs, Sound, Way}
+use Rattle.demands.proofs.Pass1.Passing.{Passing, actAs, Sound, Seen, Way}
 use Rattle.demands.proofs.Pass1.Ways.{way-low}
 use Rattle.demands.proofs.Pass1.Sequence.{earlier-trans, earlier-other, earlier-under, from-mono, table-end, entry-end}
 use Rattle.demands.proofs.Pass1.Cursor.{At, same-level}
-use Rattle.demands.proofs.Pass1.Invariant.{Done}
-use Rattle.demands.proofs.Pass1.Sources.{Src, Seen, led, All}
+use Rattle.demands.proofs.Pass1.Invariant.{Done, seen-at}
+use Rattle.demands.proofs.Pass1.Sources.{Src, led, All}
 use Rattle.demands.proofs.Pass1.Steps.{Fault, refusing, reaching, taking, filling, Halt}
 use Rattle.demands.proofs.Pass1.Reached.{way-seen}
 
@@ -60,12 +60,11 @@ module _ {K : Passing} {s : State} {P : Map} {c : ℕ → ℕ} (F : All K s P c)
   source : (e : Met K) → Q e → (a : Act) → does K e ≡ a → Src K s P c a
   source e q a w =
       let m = met e q in
-      let at : At (s .reached) P (e .t) (e .l) (e .i) = record { seen = m .0 .0; height = m .0 .1; low = e .low } in
-      record { t = e .t; l = e .l; i = e .i; at = at; done = m .1; acted = rw (m .0 .2) w }
+      record { t = e .t; l = e .l; i = e .i; at = seen-at (m .0) (e .low); done = m .1; acted = rw (m .0 .prefix) w }
 
   done : (e : Met K) → Q e → (a : Act) → does K e ≡ a → Done s P (e .l) (partOf K e) a (K .m₀ (512 * e .t + e .i)) (s .mem (512 * e .t + e .i))
   unfolding source
-  done e q a w = let r = source e q a w in rw (met e q .0 .2, w) at (F .inv .done (e .t) (e .l) (e .i) (r .at) (r .done))
+  done e q a w = let r = source e q a w in rw (met e q .0 .prefix, w) at (F .inv .done (e .t) (e .l) (e .i) (r .at) (r .done))
 
   listed : (e : Met K) → Q e → (x : Moved) → does K e ≡ move x → List·Memᴰ x (s .moved)
   listed e q x w = done e q (move x) w .1
@@ -77,18 +76,18 @@ module _ {K : Passing} {s : State} {P : Map} {c : ℕ → ℕ} (F : All K s P c)
       let me = met e qe in
       let et : b .t ≡ e .t = omega (arith, b .low, e .low) in
       let ei : b .i ≡ e .i = omega (arith, b .low, e .low) in
-      let el : suc (b .l) ≡ suc (e .l) = sym (mb .0 .1) ∙ ap (P .ht) et ∙ me .0 .1 in
-      let ep : b .p ≡ e .p = sym (mb .0 .2) ∙ ap (P .pre) et ∙ me .0 .2 in
+      let el : suc (b .l) ≡ suc (e .l) = sym (mb .0 .height) ∙ ap (P .ht) et ∙ me .0 .height in
+      let ep : b .p ≡ e .p = sym (mb .0 .prefix) ∙ ap (P .pre) et ∙ me .0 .prefix in
       (omega arith, omega arith)
 
   fine : (e : Met K) → Q e → (n : ℕ) (q : Place) → ¬ Wrong K e n q
   unfolding source
   fine e qe n q (refused w) = done e qe (refuse n q) w
-  fine e qe n q (toRoot {v} w z) = omega (arith, done e qe (follow (K .paging .root) v) w .2, F .hist .top .1, way-low K (e .way))
+  fine e qe n q (toRoot {v} w z) = omega (arith, done e qe (follow (K .paging .root) v) w .1 .height, F .hist .top .height, way-low K (e .way))
   fine e qe n q (toSame {t} {v} {v₁} w b r wb z) =
       let de = done e qe (follow t v) w in
       let db = done b (before b e r qe) (follow t v₁) wb in
-      earlier-other (b .l) (partOf K b) (e .l) (partOf K e) (sym (db .2) ∙ de .2) (sym (db .3) ∙ de .3) r
+      earlier-other (b .l) (partOf K b) (e .l) (partOf K e) (sym (db .1 .height) ∙ de .1 .height) (sym (db .1 .prefix) ∙ de .1 .prefix) r
   fine e qe n q (taken {x} {y} w b r wb ea z) =
       let qb = before b e r qe in
       let o = one b e qb qe (F .hist .uniq y x (source b qb (move y) wb) (source e qe (move x) w) ea) in
@@ -133,16 +132,16 @@ module _ {K : Passing} (S : Sound K) (n : ℕ) (q : Place) (h : Halt K n q) wher
       let up : Earlier l₁ p′ l₂ (p′ * 512 + i₂) = rw el (earlier-under l₂ p′ i₂) in
       let on : Earlier l₁ (p₁ * 512 + i₁) l (P .pre t * 512 + i) = rw ep at (earlier-trans l₁ p′ l₂ (p′ * 512 + i₂) l (P .pre t * 512 + i) up e) in
       let c₁ = way-before w l₁ i₁ refl on in
-      let a₁ : At (s .reached) P t₁ l₁ i₁ = record { seen = c₁ .0; height = c₁ .1; low = hi } in
-      let d = all .inv .done t₁ l₁ i₁ a₁ (below-cursor t₁ l₁ i₁ a₁ (rw (c₁ .2) on)) in
-      rw ep (led S s P l₁ (p₁ * 512 + i₁) (m₀ k₁) (s .mem k₁) t′ eo _ refl (rw (c₁ .2) at d))
+      let a₁ = seen-at c₁ hi in
+      let d = all .inv .done t₁ l₁ i₁ a₁ (below-cursor t₁ l₁ i₁ a₁ (rw (c₁ .prefix) on)) in
+      rw ep (led S s P l₁ (p₁ * 512 + i₁) (m₀ k₁) (s .mem k₁) t′ eo _ refl (rw (c₁ .prefix) at d))
 
   -- every entry that comes before is done
   met-before : (e : Met K) → Before K e here → Seen s P (e .t) (suc (e .l)) (e .p) × (e .i < c (e .t))
   unfolding here
   met-before e b =
       let m = way-before (e .way) (e .l) (e .i) refl b in
-      (m, below-cursor (e .t) (e .l) (e .i) (record { seen = m .0; height = m .1; low = e .low }) (rw (m .2) b))
+      (m, below-cursor (e .t) (e .l) (e .i) (seen-at m (e .low)) (rw (m .prefix) b))
 
   before-trans : (a b : Met K) → Before K a b → Before K b here → Before K a here
   before-trans a b = earlier-trans (a .l) (partOf K a) (b .l) (partOf K b) (here .l) (partOf K here)

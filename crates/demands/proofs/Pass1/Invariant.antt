@@ -11,14 +11,14 @@ use Rattle.definitions.proofs.Splits.{onEq, impossible}
 use Rattle.definitions.proofs.Puts.{put-same, put-other}
 use Rattle.definitions.specs.declared.Moved.{Moved}
 use Rattle.demands.proofs.Shared.Walks.{Map, stand}
-use Rattle.demands.proofs.Pass1.Passing.{Passing, actAs, Way}
+use Rattle.demands.proofs.Pass1.Passing.{Passing, actAs, Seen, Way}
 use Rattle.demands.proofs.Pass1.Cursor.{At, same-level}
 
 -- the entry `e` of level `l`, which maps `p`, has become `e′`
 abbrev pub Done : State → Map → (l p : ℕ) → Act → (e e′ : ℕ) → Type 0
 Done s P l p keep e e′ = e′ ≡ e
 Done s P l p (move x) e e′ = (e′ ≡ 0) × List·Memᴰ x (s .moved)
-Done s P l p (follow t v) e e′ = (e′ ≡ v) × (s .reached t ≡ true) × (P .ht t ≡ l) × (P .pre t ≡ p)
+Done s P l p (follow t v) e e′ = (e′ ≡ v) × Seen s P t l p
 Done s P l p (refuse n q) e e′ = ⊥
 
 abbrev pub DoneAt : Passing → State → Map → (t l i : ℕ) → Type 0
@@ -32,6 +32,9 @@ pub record Inv (K : Passing) (s : State) (P : Map) (c : ℕ → ℕ) : Type 0 wh
   pub aside : (t : ℕ) → s .reached t ≡ false → (c t ≡ 512) × (P .ht t ≡ 0)
   pub low : (t : ℕ) → s .reached t ≡ true → t < K .used
   pub reached : (t : ℕ) → s .reached t ≡ true → Way K t (P .ht t) (P .pre t)
+
+pub seen-at : {s : State} {P : Map} {t l p i : ℕ} → Seen s P t (suc l) p → i < 512 → At (s .reached) P t l i
+seen-at z hi = record { seen = z .seen; height = z .height; low = hi }
 
 pub apart : (s : State) (t t₁ : ℕ) → s .reached t ≡ true → s .reached t₁ ≡ false → ¬ (t₁ ≡ t)
 apart s t t₁ st e w = impossible (cc)
@@ -57,13 +60,16 @@ grow-trans g g₁ =
       moved = λ x e. g₁ .moved x (g .moved x e);
     }
 
+pub seen-grow : {s s′ : State} {P P′ : Map} {t h p : ℕ} → Grow s P s′ P′ → Seen s P t h p → Seen s′ P′ t h p
+seen-grow {t = t} g z = record { seen = g .seen t (z .seen); height = g .ht t (z .seen) ∙ z .height; prefix = g .pre t (z .seen) ∙ z .prefix }
+
 pub at-grow : {s s′ : State} {P P′ : Map} {t l i : ℕ} → Grow s P s′ P′ → At (s .reached) P t l i → At (s′ .reached) P′ t l i
 at-grow {t = t} g a = record { seen = g .seen t (a .seen); height = g .ht t (a .seen) ∙ a .height; low = a .low }
 
 done-grow : {s s′ : State} {P P′ : Map} → Grow s P s′ P′ → (l p : ℕ) (a : Act) (e e′ : ℕ) → Done s P l p a e e′ → Done s′ P′ l p a e e′
 done-grow g l p keep e e′ d = d
 done-grow g l p (move x) e e′ d = (d .0, g .moved x (d .1))
-done-grow g l p (follow t v) e e′ d = (d .0, g .seen t (d .1), g .ht t (d .1) ∙ d .2, g .pre t (d .1) ∙ d .3)
+done-grow g l p (follow t v) e e′ d = (d .0, seen-grow g (d .1))
 done-grow g l p (refuse n q) e e′ d = d
 
 doneAt-grow : (K : Passing) (s s′ : State) (P P′ : Map) → Grow s P s′ P′ → (t l i : ℕ) → s .reached t ≡ true → s′ .mem (512 * t + i) ≡ s .mem (512 * t + i)

@@ -17,6 +17,7 @@ use Rattle.definitions.specs.Conditions as C
 use Rattle.definitions.proofs.Leaves.{Ascending}
 use Rattle.definitions.specs.declared.Moved.{Moved}
 use Rattle.definitions.specs.declared.Place.{Place}
+use Rattle.demands.proofs.Shared.Walks.{Map}
 use Rattle.demands.proofs.Shared.Paging.{Paging, kindIn, Lawful, at, Addr, Good}
 use Rattle.demands.proofs.Pass1.Visit.{visit}
 
@@ -49,6 +50,12 @@ pub record Sound (K : Passing) : Type 0 where
 
 pub said : {K : Passing} → Sound K → (l p e : ℕ) (a : Act) → K .act l p e ≡ a → Says K l e a
 said S l p e a w = rw w at (S .says l p e)
+
+-- the table `t` is seen, in its place
+pub record Seen (s : State) (P : Map) (t h p : ℕ) : Type 0 where
+  pub seen : s .reached t ≡ true
+  pub height : P .ht t ≡ h
+  pub prefix : P .pre t ≡ p
 
 module _ (K : Passing) where
   open Passing K using (paging as W, old, act, room, used, m₀)
@@ -97,7 +104,7 @@ module _ (K : Passing) where
     pub read : (t : ℕ) → s .reached t ≡ true → (b : ℕ) × Addr W b × List·Memᴰ t (reads old H m₀ root b)
     -- a table that is reached has its place, and its entries are done; another is as it was
     pub way : (t : ℕ) → s .reached t ≡ true → (l : ℕ) × (p : ℕ) × Way t (suc l) p
-    pub ways : {t h p : ℕ} → Way t h p → 0 < h → (s .reached t ≡ true) × (good .P .ht t ≡ h) × (good .P .pre t ≡ p)
+    pub ways : {t h p : ℕ} → Way t h p → 0 < h → Seen s (good .P) t h p
     pub entries : (t l p i : ℕ) → Way t (suc l) p → i < 512
         → s .mem (512 * t + i) ≡ remains (act l (p * 512 + i) (m₀ (512 * t + i))) (m₀ (512 * t + i))
     pub unread : (t : ℕ) → s .reached t ≡ false → (good .P .ht t ≡ 0) × ((i : ℕ) → i < 512 → s .mem (512 * t + i) ≡ m₀ (512 * t + i))

@@ -16,23 +16,19 @@ use Rattle.definitions.specs.declared.Place.{Place}
 use Rattle.demands.proofs.Shared.Lists.{within-length}
 use Rattle.demands.proofs.Shared.Walks.{Map}
 use Rattle.demands.proofs.Shared.Paging.{Paging, Addr}
-use Rattle.demands.proofs.Pass1.Passing.{Passing, actAs, Sound, said, Way, Entry, Why}
+use Rattle.demands.proofs.Pass1.Passing.{Passing, actAs, Sound, Seen, said, Way, Entry, Why}
 use Rattle.demands.proofs.Pass1.Ways.{way-part, way-reads, reads-first, way-low, way-one}
-use Rattle.demands.proofs.Pass1.Cursor.{At}
-use Rattle.demands.proofs.Pass1.Invariant.{Done}
-use Rattle.demands.proofs.Pass1.Sources.{Src, Seen, led, All, src-entry}
+use Rattle.demands.proofs.Pass1.Invariant.{Done, seen-at}
+use Rattle.demands.proofs.Pass1.Sources.{Src, led, All, src-entry}
 
 module _ {K : Passing} (S : Sound K) {s : State} {P : Map} (F : All K s P (λ t. 512)) where
   open Passing K using (paging as W, old, act, m₀)
   open Paging W using (H, root)
   open All F using (inv as I, hist)
 
-  at-of : {t l p i : ℕ} → Seen s P t (suc l) p → i < 512 → At (s .reached) P t l i
-  at-of c hi = record { seen = c .0; height = c .1; low = hi }
-
   done-of : (t l p i : ℕ) → Seen s P t (suc l) p → i < 512 → (a : Act) → actAs K l (p * 512 + i) (512 * t + i) ≡ a
       → Done s P l (p * 512 + i) a (m₀ (512 * t + i)) (s .mem (512 * t + i))
-  done-of t l p i c hi a ea = rw (c .2, ea) at (I .done t l i (at-of c hi) hi)
+  done-of t l p i c hi a ea = rw (c .prefix, ea) at (I .done t l i (seen-at c hi) hi)
 
   pub way-seen : {t h p : ℕ} → Way K t h p → 0 < h → Seen s P t h p
   way-seen (first et eh ep) hp = rw (et, eh, ep) (hist .top)
@@ -45,7 +41,7 @@ module _ {K : Passing} (S : Sound K) {s : State} {P : Map} (F : All K s P (λ t.
   entry-src : (a : Act) → Entry K a → Src K s P (λ t. 512) a
   entry-src a e =
       let c = way-seen (e .way) (omega arith) in
-      record { t = e .t; l = e .l; i = e .i; at = at-of c (e .low); done = e .low; acted = rw (c .2) (e .acted) }
+      record { t = e .t; l = e .l; i = e .i; at = seen-at c (e .low); done = e .low; acted = rw (c .prefix) (e .acted) }
 
   pub entry-remains : (t l p i : ℕ) → Way K t (suc l) p → i < 512
       → s .mem (512 * t + i) ≡ remains (K .act l (p * 512 + i) (K .m₀ (512 * t + i))) (K .m₀ (512 * t + i))
@@ -62,8 +58,8 @@ module _ {K : Passing} (S : Sound K) {s : State} {P : Map} (F : All K s P (λ t.
   tall : (t : ℕ) → s .reached t ≡ true → 0 < P .ht t
   tall t st =
       ⊎-elim
-      (λ e. omega (arith, ap (P .ht) e, hist .top .1, S .lawful .pos))
-      (λ r. let a = follow t (r .0) in let e = src-entry I a (r .1) in omega (arith, entry-done a e .2, said S (e .l) _ _ a (e .acted) .3))
+      (λ e. omega (arith, ap (P .ht) e, hist .top .height, S .lawful .pos))
+      (λ r. let a = follow t (r .0) in let e = src-entry I a (r .1) in omega (arith, entry-done a e .1 .height, said S (e .l) _ _ a (e .acted) .3))
       (hist .parent t st)
 
   pub seen-way : (t : ℕ) → s .reached t ≡ true → (l : ℕ) × (p : ℕ) × Way K t (suc l) p
@@ -80,12 +76,12 @@ module _ {K : Passing} (S : Sound K) {s : State} {P : Map} (F : All K s P (λ t.
   pub spotless : (n : ℕ) (q : Place) → ¬ Why K n q
   unfolding entry-src
   spotless n q (bad e) = entry-done (refuse n q) e
-  spotless n q (again {v} e w) = omega (arith, way-low K (e .way), entry-done (follow root v) e .2, hist .top .1)
+  spotless n q (again {v} e w) = omega (arith, way-low K (e .way), entry-done (follow root v) e .1 .height, hist .top .height)
   spotless n q (twice {t} {v} {v₁} a b ne w) =
       let da = entry-done (follow t v) a in
       let db = entry-done (follow t v₁) b in
-      let el : suc (a .l) ≡ suc (b .l) = ap suc (sym (da .2) ∙ db .2) in
-      let ep : a .p * 512 + a .i ≡ b .p * 512 + b .i = sym (da .3) ∙ db .3 in
+      let el : suc (a .l) ≡ suc (b .l) = ap suc (sym (da .1 .height) ∙ db .1 .height) in
+      let ep : a .p * 512 + a .i ≡ b .p * 512 + b .i = sym (da .1 .prefix) ∙ db .1 .prefix in
       let et : a .t ≡ b .t = way-one K (a .way) (b .way) el (omega (arith, a .low, b .low)) in
       ne (omega (arith, a .low, b .low))
   spotless n q (crowded a xs d from more w) = omega (arith, hist .small, within-length xs (s .moved) d (λ x e. entry-done (move x) (from x e) .1))

@@ -16,10 +16,10 @@ use Rattle.definitions.proofs.Splits.{onBool, impossible}
 use Rattle.definitions.proofs.Geometry.{part-step}
 use Rattle.demands.proofs.Shared.Walks.{Map, word, Down}
 use Rattle.demands.proofs.Shared.Paging.{Paging, kindIn, Lawful}
-use Rattle.demands.proofs.Pass1.Passing.{Passing, Sound, said, StopAt, Fixed, Passed, pass1}
+use Rattle.demands.proofs.Pass1.Passing.{Passing, Sound, Seen, said, StopAt, Fixed, Passed, pass1}
 use Rattle.demands.proofs.Pass1.Ways.{moved-at}
-use Rattle.demands.proofs.Pass1.Invariant.{Done, Inv}
-use Rattle.demands.proofs.Pass1.Sources.{Seen, All, src-entry}
+use Rattle.demands.proofs.Pass1.Invariant.{Done, Inv, seen-at}
+use Rattle.demands.proofs.Pass1.Sources.{All, src-entry}
 use Rattle.demands.proofs.Pass1.Steps.{why}
 use Rattle.demands.proofs.Pass1.Tables.{Halted, pass1-halts}
 use Rattle.demands.proofs.Pass1.Reached.{way-seen, entry-remains, seen-way, seen-read, spotless}
@@ -46,16 +46,16 @@ module _ {K : Passing} (S : Sound K) {s : State} {P : Map} (I : Inv K s P (λ t.
   unfolding tableOf
   step l t b z =
       turn (act l (part l b) (m₀ (word t l b))) refl
-      (rw pe at (I .done t l (part l b % 512) (record { seen = z .0; height = z .1; low = omega arith }) (omega arith)))
+      (rw pe at (I .done t l (part l b % 512) (seen-at z (omega arith)) (omega arith)))
     where
       pe : P .pre t * 512 + part l b % 512 ≡ part l b
-      pe = omega (arith, part-step l b, z .2)
+      pe = omega (arith, part-step l b, z .prefix)
 
       turn : (a : Act) → act l (part l b) (m₀ (word t l b)) ≡ a → Done s P l (part l b) a (m₀ (word t l b)) (s .mem (word t l b)) → Halts l t b ⊎ Leads l t b
       turn keep ea d = let r = said S l _ _ _ ea in inl (r .0, rw d (r .1), rw ea d)
       turn (move x) ea d = inl (said S l _ _ _ ea .0, rw (d .0, zero-absent l) refl, rw ea d)
       turn (follow t′ v) ea d =
-          let r = said S l _ _ _ ea in inr (record { to = t′; before = r .0; after = rw (d .0) (r .1); seen = (d .1, d .2, d .3); pos = r .3 })
+          let r = said S l _ _ _ ea in inr (record { to = t′; before = r .0; after = rw (d .0) (r .1); seen = d .1; pos = r .3 })
       turn (refuse n q) ea d = absurd d
 
   walked : (h t b : ℕ) → Seen s P t h (part h b) → 0 < h → (stopOf kind h (s .mem) t b ≡ stopOf old h m₀ t b) × StopAt K s (stopOf old h m₀ t b) b
@@ -78,7 +78,7 @@ module _ {K : Passing} (S : Sound K) {s : State} {P : Map} (I : Inv K s P (λ t.
   unfolding reads onward
   walked-seen zero t b z x m = absurd (List·Memᴰ·not-nil m)
   walked-seen (suc l) t b z x m =
-      ⊎-elim (λ e. rw e (z .0))
+      ⊎-elim (λ e. rw e (z .seen))
       (λ m. ⊎-elim
       (λ c. absurd (List·Memᴰ·not-nil (rw (c .0) at m)))
       (λ c. walked-seen l (c .to) b (c .seen) x (rw (c .before) at m))
@@ -101,7 +101,7 @@ module _ {K : Passing} (S : Sound K) {s : State} {P : Map} (I : Inv K s P (λ t.
       turn : (a : Act) → act l p (m₀ k) ≡ a → Done s P l p a (m₀ k) (s .mem k) → (t′ < used) × (P .ht t′ ≡ l) × (P .pre t′ ≡ p)
       turn keep ea d = impossible (cc (said S l p (m₀ k) _ ea .1))
       turn (move x) ea d = impossible (cc (d .0, zero-absent l))
-      turn (follow t₂ v) ea d = let same : t₂ ≡ t′ = cc (d .0, said S l p (m₀ k) _ ea .1) in rw (← same) (I .low t₂ (d .1), d .2, d .3)
+      turn (follow t₂ v) ea d = let same : t₂ ≡ t′ = cc (d .0, said S l p (m₀ k) _ ea .1) in rw (← same) (I .low t₂ (d .1 .seen), d .1 .height, d .1 .prefix)
       turn (refuse n q) ea d = absurd d
 
   still-free : (k : ℕ) → 512 * used ≤ k → s .mem k ≡ 0
@@ -116,11 +116,12 @@ module _ {K : Passing} (S : Sound K) where
   fixed : (s : State) (P : Map) → All K s P (λ t. 512) → Fixed K s
   fixed s P F =
       let top = F .hist .top in
-      let on : (b : ℕ) → part H b ≡ 0 → Seen s P root H (part H b) = λ b r. (top .0, top .1, top .2 ∙ sym r) in
+      let on : (b : ℕ) → part H b ≡ 0 → Seen s P root H (part H b) = λ b r.
+      record { seen = top .seen; height = top .height; prefix = top .prefix ∙ sym r } in
       record {
         good = record {
           P = P;
-          on = λ b r. record { low = S .root-low; height = top .1; prefix = on b r .2 };
+          on = λ b r. record { low = S .root-low; height = top .height; prefix = on b r .prefix };
           down = down S (F .inv);
           free = still-free S (F .inv);
         };

@@ -14,9 +14,9 @@ use Rattle.definitions.proofs.Splits.{impossible}
 use Rattle.definitions.proofs.Leaves.{Ascending}
 use Rattle.definitions.specs.declared.Moved.{Moved}
 use Rattle.demands.proofs.Shared.Walks.{Map}
-use Rattle.demands.proofs.Pass1.Passing.{Passing, actAs, Sound, said, Entry}
+use Rattle.demands.proofs.Pass1.Passing.{Passing, actAs, Sound, Seen, said, Entry}
 use Rattle.demands.proofs.Pass1.Cursor.{At, Sorted}
-use Rattle.demands.proofs.Pass1.Invariant.{Done, Inv, Grow, at-grow}
+use Rattle.demands.proofs.Pass1.Invariant.{Done, Inv, Grow, seen-grow, at-grow}
 
 -- an entry that is done, and called for `a`
 pub record Src (K : Passing) (s : State) (P : Map) (c : ℕ → ℕ) (a : Act) : Type 0 where
@@ -26,10 +26,6 @@ pub record Src (K : Passing) (s : State) (P : Map) (c : ℕ → ℕ) (a : Act) :
   pub at : At (s .reached) P t l i
   pub done : i < c t
   pub acted : actAs K l (P .pre t * 512 + i) (512 * t + i) ≡ a
-
--- the table `t` was seen, in its place
-abbrev pub Seen : State → Map → (t h p : ℕ) → Type 0
-Seen s P t h p = (s .reached t ≡ true) × (P .ht t ≡ h) × (P .pre t ≡ p)
 
 -- where each table that is seen, and each leaf that is moved, comes from; no two moved leaves have one address; the root is seen, and what is
 -- done is earlier in walk order than what is not
@@ -63,7 +59,7 @@ pub led : {K : Passing} → Sound K → (s : State) (P : Map) (l p e e′ t : �
     → Seen s P t l p
 led S s P l p e e′ t eo keep ea d = impossible (cc (said S l p e _ ea .0))
 led S s P l p e e′ t eo (move x) ea d = impossible (cc (said S l p e _ ea .0))
-led S s P l p e e′ t eo (follow t₁ v) ea d = let same : t₁ ≡ t = cc (said S l p e _ ea .0) in rw (← same) (d .1, d .2, d .3)
+led S s P l p e e′ t eo (follow t₁ v) ea d = let same : t₁ ≡ t = cc (said S l p e _ ea .0) in rw (← same) (d .1)
 led S s P l p e e′ t eo (refuse n q) ea d = absurd d
 
 -- the leaf that `a` moves, if it moves one, goes where none went
@@ -116,6 +112,6 @@ module _ {K : Passing} {s : State} {P : Map} {c : ℕ → ℕ} (F : All K s P c)
             (src-back (move x) a);
         tidy = tidy₂;
         small = small₂;
-        top = (let r = F .hist .top in (g .seen _ (r .0), g .ht _ (r .0) ∙ r .1, g .pre _ (r .0) ∙ r .2));
+        top = seen-grow g (F .hist .top);
         order = order₂;
       }

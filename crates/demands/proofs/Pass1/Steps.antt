@@ -17,10 +17,10 @@ use Rattle.definitions.proofs.Leaves.{ascending-distinct}
 use Rattle.definitions.specs.declared.Moved.{Moved}
 use Rattle.definitions.specs.declared.Place.{Place}
 use Rattle.demands.proofs.Shared.Walks.{Map}
-use Rattle.demands.proofs.Pass1.Passing.{Passing, actAs, Entry, Why}
+use Rattle.demands.proofs.Pass1.Passing.{Passing, actAs, Seen, Entry, Why}
 use Rattle.demands.proofs.Pass1.Cursor.{At, Ahead}
 use Rattle.demands.proofs.Pass1.Invariant.{Grow, grow-trans}
-use Rattle.demands.proofs.Pass1.Sources.{Src, Seen, All, entry-at, src-entry}
+use Rattle.demands.proofs.Pass1.Sources.{Src, All, entry-at, src-entry}
 
 pub record Post (K : Passing) (s : State) (P : Map) (s′ : State) (c′ : ℕ → ℕ) : Type 0 where
   pub P′ : Map

@@ -16,10 +16,10 @@ use Rattle.definitions.proofs.Puts.{put-same, put-other, put-idle, put-put}
 use Rattle.demands.proofs.Shared.Walks.{Map, stand}
 use Rattle.demands.proofs.Shared.Paging.{Paging}
 use Rattle.demands.proofs.Pass1.Visit.{entry, visit}
-use Rattle.demands.proofs.Pass1.Passing.{Passing, Sound, started, pass1}
+use Rattle.demands.proofs.Pass1.Passing.{Passing, Sound, Seen, started, pass1}
 use Rattle.demands.proofs.Pass1.Cursor.{Ahead, ahead-on}
-use Rattle.demands.proofs.Pass1.Invariant.{Inv, grow-moved, mark}
-use Rattle.demands.proofs.Pass1.Sources.{Seen, Hist, All}
+use Rattle.demands.proofs.Pass1.Invariant.{Inv, seen-at, seen-grow, grow-moved, mark}
+use Rattle.demands.proofs.Pass1.Sources.{Hist, All}
 use Rattle.demands.proofs.Pass1.Steps.{Halt, Ok, next-ok, Visits}
 use Rattle.demands.proofs.Pass1.Entry.{entry-ok}
 
@@ -36,9 +36,9 @@ module _ {K : Passing} (S : Sound K) where
       let d : i ≡ 512 = omega arith in record { P′ = P; grow = grow-moved s s P refl (λ x e. e); all = rw d at F }
   loop-ok l t p on ih (suc n) i e s P c F z ah =
       next-ok K s P (put c t (suc i)) (put c t 512) (entry act room on l t p i s) (λ s′. times n (λ i s. entry act room on l t p i s) (suc i) s′)
-      (rw (put-put c t i (suc i), z .2) at
-      (entry-ok S F (record { seen = z .0; height = z .1; low = omega arith }) (put-same c t i t refl) (rw (z .2) ah) on ih))
-      (λ s₁ P₁ g J. loop-ok l t p on ih n (suc i) (omega arith) s₁ P₁ c J (g .seen t (z .0), g .ht t (z .0) ∙ z .1, g .pre t (z .0) ∙ z .2)
+      (rw (put-put c t i (suc i), z .prefix) at
+      (entry-ok S F (seen-at z (omega arith)) (put-same c t i t refl) (rw (z .prefix) ah) on ih))
+      (λ s₁ P₁ g J. loop-ok l t p on ih n (suc i) (omega arith) s₁ P₁ c J (seen-grow g z)
       (ahead-on (s .reached) (s₁ .reached) P P₁ (put c t i) (put c t (suc i)) t (suc p * span (suc l)) (λ t₁ w. F .inv .aside t₁ w .0) (g .ht) (g .pre)
       (λ t₁ w. put-other c t (suc i) t₁ w ∙ sym (put-other c t i t₁ w)) ah))
 
@@ -71,7 +71,12 @@ module _ {K : Passing} (S : Sound K) where
 
   top₀ : Seen (started K) P₀ root H 0
   unfolding P₀ P∅
-  top₀ = (put-same (λ t. false) root true root refl, put-same (λ t. 0) root H root refl, put-same (λ t. 0) root 0 root refl)
+  top₀ =
+      record {
+        seen = put-same (λ t. false) root true root refl;
+        height = put-same (λ t. 0) root H root refl;
+        prefix = put-same (λ t. 0) root 0 root refl;
+      }
 
   inv₀ : Inv K (started K) P₀ c₀
   unfolding P₀ P∅

@@ -39,7 +39,7 @@ pub record Linked (W : Paging) (x : Moved) (m m₁ : Mem) (u : ℕ) : Type 0 whe
 
 module _ {W : Paging} (X : Lawful W) {x : Moved} (fit : Fit W x) where
   open Lawful X using (zero-absent, link-table)
-  open Moved x using (level as L, address as a)
+  open Moved x using (address as a)
 
   abbrev kind : ℕ → ℕ → Kind
   kind = kindIn W
