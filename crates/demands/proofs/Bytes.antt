@@ -1,5 +1,5 @@
 -- The bytes of an accepted build's output: their words are the words that demand 3 speaks of (output-words), so its walks are
--- walks in the buffer (after-in). On Both. Assumes nothing.
+-- walks in the buffer (after-in). Builds on Both. Assumes nothing.
 use Prim.Native.Nat.{ℕ, _+_, _*_, _/_, _%_, _^_, _<_}
 use mathlib.Core.Path.{_≡_, refl}
 use mathlib.Core.List.{List, List·Memᴰ}
@@ -15,17 +15,17 @@ use Rattle.definitions.specs.Pass1.{Act, keep, move, follow, refuse}
 use Rattle.definitions.specs.Build.{geometry, height, root, planOf, build, outputBytes}
 use Rattle.definitions.specs.Walk.{walk}
 use Rattle.definitions.specs.Demand.{Proper, after, entryBefore, actAt, remains}
+use Rattle.definitions.specs.declared.Moved.{Moved}
 use Rattle.definitions.proofs.Entry.{address-word, leaf-word}
 use Rattle.definitions.proofs.Splits.{onBool}
 use Rattle.definitions.proofs.Ranges.{region-sound}
 use Rattle.definitions.proofs.Acts.{Means, act-means}
 use Rattle.definitions.proofs.Buffers.{words-bytes}
-use Rattle.definitions.specs.declared.Moved.{Moved}
 use Rattle.demands.proofs.Pass2.Leaf.{Puts}
 use Rattle.demands.proofs.Both.Sound.{paging, plan-is, moved-pointer, new-table}
 use Rattle.demands.proofs.Both.Bridge.{moved, old}
-use Rattle.demands.proofs.Both.Left.{used-fits}
 use Rattle.demands.proofs.Both.Outcome.{Ran, accepts, accepted-output}
+use Rattle.demands.proofs.Both.Left.{used-fits}
 
 module _ (j : Job) (proper : Proper j) (R : Ran j (build j)) where
   -- what pass 1 leaves

@@ -1,4 +1,4 @@
--- A refusal of pass 1 is the first in walk order (in-order), and the first in walk order is what is reported. On Pass1.First, Pass1.OneFirst
+-- A refusal of pass 1 is the first in walk order (in-order), and the first in walk order is what is reported. Builds on Pass1.First, Pass1.OneFirst
 -- and Exact. Assumes nothing.
 use Prim.Native.Nat.{ℕ, _+_, _*_, _<_}
 use mathlib.Core.Path.{_≡_, refl}

@@ -1,5 +1,5 @@
 -- Offsets in true numbers: a moved leaf goes up or down by its offset (moved-by), and 13 is given exactly where
--- the true new span leaves 0 to the bound (too-far-iff). On Both. Assumes nothing.
+-- the true new span leaves 0 to the bound (too-far-iff). Builds on Both. Assumes nothing.
 use Prim.Native.Nat.{ℕ, suc, _+_, _*_, _^_, _<_, _≤_}
 use mathlib.Core.Path.{_≡_, refl}
 use mathlib.Core.Logic.{inl, inr, ⊎-elim, _↔_}
@@ -13,13 +13,13 @@ use Rattle.definitions.specs.Pass1.{refuse, act}
 use Rattle.definitions.specs.Build.{geometry, height, planOf}
 use Rattle.definitions.specs.Demand.{Proper, Reached, stopBefore, entryBefore, Moves, MovedBy}
 use Rattle.definitions.specs.Conditions.{BadEntry, inTail, intoMoved, notWhole, tooFar, BadTables, bad, again, twice, taken, crowded, Refusal, TooFar}
+use Rattle.definitions.specs.declared.Moved.{Moved}
+use Rattle.definitions.specs.declared.Place.{Place}
 use Rattle.definitions.proofs.Geometry.{span-pos, part-step, part-first, part-below}
 use Rattle.definitions.proofs.Acts.{MovesAs}
 use Rattle.definitions.proofs.Conditions.{refuse-iff}
 use Rattle.definitions.proofs.Offset.{deciding-offsets, decide-offset, target-shifted, past-iff}
 use Rattle.definitions.proofs.Checks.{bad-input-number, geometry-sound}
-use Rattle.definitions.specs.declared.Moved.{Moved}
-use Rattle.definitions.specs.declared.Place.{Place}
 use Rattle.demands.proofs.Pass1.Ways.{way-part}
 use Rattle.demands.proofs.Both.Sound.{plan-is}
 use Rattle.demands.proofs.Both.Bridge.{moves-as}

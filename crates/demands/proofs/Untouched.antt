@@ -1,5 +1,5 @@
 -- What an accepted build leaves alone: tables that no walk reads, entries that no move touches, the free tail
--- (untouched). On Both. Assumes nothing.
+-- (untouched). Builds on Both. Assumes nothing.
 use Prim.Native.Nat.{ℕ, suc, _+_, _*_, _/_, _%_, _≤_, _<_}
 use mathlib.Core.Path.{_≡_, refl, sym, _∙_, ap}
 use mathlib.Core.Bool.{true, false}
@@ -14,16 +14,16 @@ use Rattle.definitions.specs.Ranges.{Kind, absent, leaf, outside, table, usedTa
 use Rattle.definitions.specs.Build.{geometry, height, planOf, build}
 use Rattle.definitions.specs.Walk.{nothing, endOf, endAt}
 use Rattle.definitions.specs.Demand.{Proper, IsRead, readsBefore, Reached, Written, leafIn, tableIn, Became, Untouched}
+use Rattle.definitions.specs.declared.Moved.{Moved}
 use Rattle.definitions.proofs.Splits.{onBool, impossible}
 use Rattle.definitions.proofs.Geometry.{part-below}
 use Rattle.definitions.proofs.Ranges.{region-sound}
 use Rattle.definitions.proofs.Kind.{kind-tells}
-use Rattle.definitions.specs.declared.Moved.{Moved}
 use Rattle.demands.proofs.Shared.Paging.{at, ended}
-use Rattle.demands.proofs.Pass2.Leaf.{Puts, Wrote}
 use Rattle.demands.proofs.Pass1.Passing.{Sound}
-use Rattle.demands.proofs.Both.Sound.{paging, passing, sound}
+use Rattle.demands.proofs.Pass2.Leaf.{Puts, Wrote}
 use Rattle.demands.proofs.Both.Passes.{fits, tables-before}
+use Rattle.demands.proofs.Both.Sound.{paging, passing, sound}
 use Rattle.demands.proofs.Both.Bridge.{addr, moved}
 use Rattle.demands.proofs.Both.Outcome.{Ran, accepted-used, accepted-output}
 

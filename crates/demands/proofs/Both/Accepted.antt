@@ -1,4 +1,4 @@
--- Both passes of a job: where pass 2 goes through, none of its conditions of refusal holds (no-bad-places). On Left and Pass2.Leaves.
+-- Both passes of a job: where pass 2 goes through, none of its conditions of refusal holds (no-bad-places). Builds on Left and Pass2.Leaves.
 -- Assumes nothing.
 use Prim.Native.Nat.{ℕ}
 use mathlib.Core.Path.{_≡_, refl, sym, _∙_}
@@ -12,10 +12,10 @@ use Rattle.definitions.specs.Build.{planOf}
 use Rattle.definitions.specs.Walk.{End, nothing, inLeaf}
 use Rattle.definitions.specs.Demand.{Proper, before, Moves, Stays}
 use Rattle.definitions.specs.Conditions.{BadPlaces, onLeaf, inSpan, onPast, onTable, onOther, noRoom}
-use Rattle.definitions.proofs.Splits.{impossible}
-use Rattle.definitions.proofs.Checks.{Good}
 use Rattle.definitions.specs.declared.Moved.{Moved}
 use Rattle.definitions.specs.declared.Place.{Place}
+use Rattle.definitions.proofs.Splits.{impossible}
+use Rattle.definitions.proofs.Checks.{Good}
 use Rattle.demands.proofs.Shared.Lists.{within-length}
 use Rattle.demands.proofs.Shared.Walks.{leaf-level}
 use Rattle.demands.proofs.Shared.Paging.{Addr, at, walk}

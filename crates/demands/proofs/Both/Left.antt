@@ -1,5 +1,5 @@
 -- Both passes of a job: what pass 1 leaves, in the words of the conditions of refusal: what stays ends as before (stays, as-before), and
--- walks end at the level at which they ended (stop-same). On Passes and Bridge. Assumes nothing.
+-- walks end at the level at which they ended (stop-same). Builds on Passes and Bridge. Assumes nothing.
 use Prim.Native.Nat.{ℕ, _/_, _≤_}
 use mathlib.Core.Path.{_≡_, sym, _∙_, ap}
 use native.Mathlib.Omega.{arith}

@@ -9,8 +9,8 @@ use Rattle.definitions.specs.Pass1.{refuse}
 use Rattle.definitions.specs.Build.{planOf}
 use Rattle.definitions.specs.Demand.{actAt}
 use Rattle.definitions.specs.Conditions.{BadEntry, BadTables, bad, again, twice, taken, crowded, BadPlaces, onLeaf, inSpan, onPast, onTable, onOther, noRoom}
-use Rattle.definitions.proofs.Conditions.{refuse-iff, bad-entry-number}
 use Rattle.definitions.specs.declared.Place.{Place}
+use Rattle.definitions.proofs.Conditions.{refuse-iff, bad-entry-number}
 
 -- the entry i of t, which maps the part p * 512 + i, is refused
 pub entry-bad : (j : Job) (t l p i n : ℕ) (q : Place) → actAt j l (p * 512 + i) (j .image (512 * t + i)) ≡ refuse n q

@@ -1,5 +1,5 @@
 -- Both passes, over any tables that meet the laws: every walk afterwards (Walks, walks), and the tables taken (Taken, needs).
--- On Pass1.Passing and Pass2. Assumes nothing.
+-- Builds on Pass1.Passing and Pass2. Assumes nothing.
 use Prim.Native.Nat.{ℕ, _+_, _<_, _≤_}
 use mathlib.Core.Path.{_≡_, refl, _∙_}
 use mathlib.Core.Option.{none}

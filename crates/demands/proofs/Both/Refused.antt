@@ -1,5 +1,5 @@
 -- Both passes of a job: where pass 2 refuses a leaf, a condition of refusal holds, with the number and the place (refused-for).
--- On Left and Pass2.Leaves. Assumes nothing.
+-- Builds on Left and Pass2.Leaves. Assumes nothing.
 use Prim.Native.Nat.{ℕ, _+_, _<_, _≤_}
 use mathlib.Core.Path.{_≡_, refl, sym, _∙_}
 use mathlib.Core.List.{List, [], _∷_, _++_, List·Memᴰ, List·Memᴰ·head, List·Memᴰ·tail, List·Memᴰ·not-nil, List·Memᴰ·cases-cons, Memᴰ·append-left, Memᴰ·append-right}
@@ -14,12 +14,12 @@ use Rattle.definitions.specs.Build.{planOf}
 use Rattle.definitions.specs.Walk.{Spot, End, nothing, wild, inLeaf, past}
 use Rattle.definitions.specs.Demand.{Proper, Moves, TablePlace, Needed}
 use Rattle.definitions.specs.Conditions.{BadPlaces, onLeaf, inSpan, onPast, onTable, onOther, noRoom}
+use Rattle.definitions.specs.declared.Moved.{Moved}
+use Rattle.definitions.specs.declared.Place.{Place}
 use Rattle.definitions.proofs.Splits.{onEq, impossible}
 use Rattle.definitions.proofs.Geometry.{of-part}
 use Rattle.definitions.proofs.Leaves.{Ascending}
 use Rattle.definitions.proofs.Checks.{Good}
-use Rattle.definitions.specs.declared.Moved.{Moved}
-use Rattle.definitions.specs.declared.Place.{Place}
 use Rattle.demands.proofs.Shared.Walks.{not-wild, leaf-level, same-level}
 use Rattle.demands.proofs.Shared.Paging.{Paging, In, Addr, at, walk, ended}
 use Rattle.demands.proofs.Pass1.Passing.{Sound, Goes, Fixed}

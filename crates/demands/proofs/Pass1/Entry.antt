@@ -1,5 +1,5 @@
 -- Pass 1, one entry (entry-ok): it is kept, its leaf is taken out (moves), or its table is marked and visited (follows), and the cursor of
--- its table moves by one; or pass 1 stops at it (halt). On Steps. Assumes nothing.
+-- its table moves by one; or pass 1 stops at it (halt). Builds on Steps. Assumes nothing.
 use Prim.Native.Nat.{ℕ, suc, _+_, _*_, _≤_}
 use mathlib.Core.Path.{_≡_, refl, sym, _∙_, ap}
 use mathlib.Core.List.{List, List·Memᴰ}
@@ -16,12 +16,12 @@ use Rattle.definitions.specs.Step.{Step, go, unless}
 use Rattle.definitions.specs.Pass1 as D
 use Rattle.definitions.specs.Pass1.{Act, keep, move, follow, refuse, State, remember, without, pointed, perform}
 use Rattle.definitions.specs.Demand.{later}
+use Rattle.definitions.specs.declared.Moved.{Moved}
+use Rattle.definitions.specs.declared.Place.{Place}
 use Rattle.definitions.proofs.Splits.{onEq, impossible}
 use Rattle.definitions.proofs.Puts.{put-same, put-other, put-idle, put-put, put-swap}
 use Rattle.definitions.proofs.Leaves.{Ascending, taken-true, taken-false, remember-adds}
 use Rattle.definitions.proofs.Misreadings.{cleared, marked}
-use Rattle.definitions.specs.declared.Moved.{Moved}
-use Rattle.definitions.specs.declared.Place.{Place}
 use Rattle.demands.proofs.Shared.Walks.{Map, stand}
 use Rattle.demands.proofs.Pass1.Passing.{Passing, actAs, Sound, said, Seen, Way}
 use Rattle.demands.proofs.Pass1.Cursor.{At, Ahead, same-level, sorted-plain, ahead-under, sorted-follow}

@@ -1,5 +1,5 @@
 -- Pass 1, walk order: where it stops is the first entry at which something is wrong (first-halt), and where it goes through nothing is wrong
--- (none-wrong). All that comes before the entry at which it stops is done, and at what is done nothing is wrong (fine). On Reached, Steps
+-- (none-wrong). All that comes before the entry at which it stops is done, and at what is done nothing is wrong (fine). Builds on Reached, Steps
 -- and Sequence. Assumes nothing.
 use Prim.Native.Nat.{ℕ, suc, _+_, _*_, _<_, _≤_}
 use mathlib.Core.Path.{_≡_, refl, sym, _∙_, ap}
@@ -12,10 +12,10 @@ use Rattle.definitions.specs.Pass1.{Act, move, follow, refuse, State}
 use Rattle.definitions.specs.Demand.{first, later}
 use Rattle.definitions.specs.Order as O
 use Rattle.definitions.specs.Order.{Earlier, refused, toRoot, toSame, taken, full}
-use Rattle.definitions.proofs.Splits.{onEq}
-use Rattle.definitions.proofs.Leaves.{ascending-distinct}
 use Rattle.definitions.specs.declared.Moved.{Moved}
 use Rattle.definitions.specs.declared.Place.{Place}
+use Rattle.definitions.proofs.Splits.{onEq}
+use Rattle.definitions.proofs.Leaves.{ascending-distinct}
 use Rattle.demands.proofs.Shared.Lists.{within-length}
 use Rattle.demands.proofs.Shared.Walks.{Map}
 use Rattle.demands.proofs.Shared.Paging.{Paging}

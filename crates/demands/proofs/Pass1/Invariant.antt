@@ -1,5 +1,5 @@
 -- Pass 1, its invariant (Inv): every table that is seen is done below its cursor and as it was from there on. It holds after the entry at
--- a cursor is done (advance) and after a table is marked (mark). On Ways and Cursor. Assumes nothing.
+-- a cursor is done (advance) and after a table is marked (mark). Builds on Passing and Cursor. Assumes nothing.
 use Prim.Native.Nat.{ℕ, suc, _+_, _*_, _<_, _≤_}
 use mathlib.Core.Path.{_≡_, refl, sym, _∙_}
 use mathlib.Core.List.{List, List·Memᴰ}
@@ -7,9 +7,9 @@ use mathlib.Core.Bool.{Bool, true, false}
 use native.Mathlib.Omega.{arith}
 use Rattle.definitions.specs.Words.{Mem, put}
 use Rattle.definitions.specs.Pass1.{Act, keep, move, follow, refuse, State}
+use Rattle.definitions.specs.declared.Moved.{Moved}
 use Rattle.definitions.proofs.Splits.{onEq, impossible}
 use Rattle.definitions.proofs.Puts.{put-same, put-other}
-use Rattle.definitions.specs.declared.Moved.{Moved}
 use Rattle.demands.proofs.Shared.Walks.{Map, stand}
 use Rattle.demands.proofs.Pass1.Passing.{Passing, actAs, Seen, Way}
 use Rattle.demands.proofs.Pass1.Cursor.{At, same-level}

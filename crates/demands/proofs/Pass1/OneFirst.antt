@@ -1,4 +1,4 @@
--- Pass 1, walk order: there is one first entry at which something is wrong, and one number and place for it (first-one). On First.
+-- Pass 1, walk order: there is one first entry at which something is wrong, and one number and place for it (first-one). Builds on First.
 -- Assumes nothing.
 use Prim.Native.Nat.{ℕ, suc, _*_}
 use mathlib.Core.Path.{_≡_, refl, sym, _∙_, ap}
@@ -10,9 +10,9 @@ use Rattle.definitions.specs.Inputs.{placeAt}
 use Rattle.definitions.specs.Pass1.{Act, keep, move, follow, refuse}
 use Rattle.definitions.specs.Order as O
 use Rattle.definitions.specs.Order.{refused, toRoot, toSame, taken, full}
-use Rattle.definitions.proofs.Geometry.{span-pos}
 use Rattle.definitions.specs.declared.Moved.{Moved}
 use Rattle.definitions.specs.declared.Place.{Place}
+use Rattle.definitions.proofs.Geometry.{span-pos}
 use Rattle.demands.proofs.Pass1.Passing.{Passing}
 use Rattle.demands.proofs.Pass1.Ways.{way-one}
 use Rattle.demands.proofs.Pass1.Sequence.{earlier-total}

@@ -1,5 +1,5 @@
 -- Pass 1, what is said of it: what it is given (Passing) and what that obeys (Sound), where a leaf goes (Goes), what it leaves of every
--- walk, table and entry (Fixed), or why it refuses (Why). On Shared and Visit. Assumes nothing.
+-- walk, table and entry (Fixed), or why it refuses (Why). Builds on Shared and Visit. Assumes nothing.
 use Prim.Native.Nat.{ℕ, suc, _+_, _*_, _<_, _≤_}
 use mathlib.Core.Path.{_≡_}
 use mathlib.Core.Option.{none, some}
@@ -14,14 +14,15 @@ use Rattle.definitions.specs.Walk.{Spot, endOf, below, stopOf, reads}
 use Rattle.definitions.specs.Demand as T
 use Rattle.definitions.specs.Demand.{remains}
 use Rattle.definitions.specs.Conditions as C
-use Rattle.definitions.proofs.Leaves.{Ascending}
 use Rattle.definitions.specs.declared.Moved.{Moved}
 use Rattle.definitions.specs.declared.Place.{Place}
+use Rattle.definitions.proofs.Leaves.{Ascending}
 use Rattle.demands.proofs.Shared.Walks.{Map}
 use Rattle.demands.proofs.Shared.Paging.{Paging, kindIn, Lawful, at, Addr, Good}
 use Rattle.demands.proofs.Pass1.Visit.{visit}
 
--- the tables at their new place; how entries read before; what is done at an entry; the leaves and the tables that there is room for
+-- the tables at their new place; how entries read before; what is done at an entry; how many leaves there is room for; the used tables,
+-- and their words before
 pub record Passing : Type 0 where
   pub paging : Paging
   pub old : ℕ → ℕ → Kind

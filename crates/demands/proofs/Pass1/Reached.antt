@@ -1,5 +1,5 @@
 -- Pass 1, where all is done: every way leads to a table that is seen (way-seen), every entry on one is done (entry-done), some walk reads every
--- table that is seen (seen-read), and nothing is wrong (spotless). On Sources and Ways. Assumes nothing.
+-- table that is seen (seen-read), and nothing is wrong (spotless). Builds on Sources and Ways. Assumes nothing.
 use Prim.Native.Nat.{ℕ, suc, _+_, _*_, _-_, _<_}
 use mathlib.Core.Path.{_≡_, refl, sym, _∙_, ap}
 use mathlib.Core.List.{List·Memᴰ}
@@ -11,8 +11,8 @@ use Rattle.definitions.specs.Pass1.{Act, keep, move, follow, refuse, State}
 use Rattle.definitions.specs.Walk.{reads}
 use Rattle.definitions.specs.Demand.{first, later, remains}
 use Rattle.definitions.specs.Conditions.{bad, again, twice, taken, crowded}
-use Rattle.definitions.proofs.Geometry.{part-first}
 use Rattle.definitions.specs.declared.Place.{Place}
+use Rattle.definitions.proofs.Geometry.{part-first}
 use Rattle.demands.proofs.Shared.Lists.{within-length}
 use Rattle.demands.proofs.Shared.Walks.{Map}
 use Rattle.demands.proofs.Shared.Paging.{Paging, Addr}

@@ -1,5 +1,5 @@
 -- Pass 1, its theorem (pass1-ok): what it leaves of every walk, table and entry, with no table shared, or the reason why it refused, with
--- number and place. Every walk goes through the same tables before and after (walked). On Reached and Tables. Assumes nothing.
+-- number and place. Every walk goes through the same tables before and after (walked). Builds on Reached and Tables. Assumes nothing.
 use Prim.Native.Nat.{ℕ, zero, suc, _+_, _*_, _/_, _%_, _<_, _≤_}
 use mathlib.Core.Path.{_≡_, refl, sym, _∙_, ap}
 use mathlib.Core.Option.{none, some}

@@ -1,5 +1,5 @@
 -- Pass 1, where what it holds comes from (Hist): each table that is seen and each leaf that is moved has an entry that is done and called
--- for it (Src), and no two leaves have one address. It holds after a step (step-hist). On Invariant. Assumes nothing.
+-- for it (Src), and no two leaves have one address. It holds after a step (step-hist). Builds on Invariant. Assumes nothing.
 use Prim.Native.Nat.{ℕ, _+_, _*_, _<_, _≤_}
 use mathlib.Core.Path.{_≡_, refl, sym, _∙_}
 use mathlib.Core.Option.{some}
@@ -10,9 +10,9 @@ use native.Mathlib.Omega.{arith}
 use lib.ListN.{length}
 use Rattle.definitions.specs.Pass1.{Act, keep, move, follow, refuse, State}
 use Rattle.definitions.specs.Walk.{below}
+use Rattle.definitions.specs.declared.Moved.{Moved}
 use Rattle.definitions.proofs.Splits.{impossible}
 use Rattle.definitions.proofs.Leaves.{Ascending}
-use Rattle.definitions.specs.declared.Moved.{Moved}
 use Rattle.demands.proofs.Shared.Walks.{Map}
 use Rattle.demands.proofs.Pass1.Passing.{Passing, actAs, Sound, Seen, said, Entry}
 use Rattle.demands.proofs.Pass1.Cursor.{At, Sorted}

@@ -1,5 +1,5 @@
 -- Pass 1, what is said of a step (Ok): the state after it, grown, with the cursors where they are to be (Post), or how pass 1 stands where it
--- stops (Halt), from which the reason follows (why). On Sources. Assumes nothing.
+-- stops (Halt), from which the reason follows (why). Builds on Sources. Assumes nothing.
 use Prim.Native.Nat.{ℕ, suc, _+_, _*_, _<_, _≤_}
 use mathlib.Core.Path.{_≡_, refl}
 use mathlib.Core.List.{_∷_, List·Memᴰ, List·Memᴰ·cases-cons}
@@ -13,9 +13,9 @@ use Rattle.definitions.specs.Inputs.{placeAt}
 use Rattle.definitions.specs.Step.{Step, go, stop, andThen}
 use Rattle.definitions.specs.Pass1.{Act, move, follow, refuse, State}
 use Rattle.definitions.specs.Conditions.{bad, again, twice, taken, crowded}
-use Rattle.definitions.proofs.Leaves.{ascending-distinct}
 use Rattle.definitions.specs.declared.Moved.{Moved}
 use Rattle.definitions.specs.declared.Place.{Place}
+use Rattle.definitions.proofs.Leaves.{ascending-distinct}
 use Rattle.demands.proofs.Shared.Walks.{Map}
 use Rattle.demands.proofs.Pass1.Passing.{Passing, actAs, Seen, Entry, Why}
 use Rattle.demands.proofs.Pass1.Cursor.{At, Ahead}

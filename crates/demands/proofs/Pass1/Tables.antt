@@ -1,5 +1,5 @@
 -- Pass 1, all the tables: the entries of a table (loop-ok), a table and those below it (visit-ok), and from the root on (visited): how pass 1
--- stands at its end, or where it stops (pass1-halts). On Entry. Assumes nothing.
+-- stands at its end, or where it stops (pass1-halts). Builds on Entry. Assumes nothing.
 use Prim.Native.Nat.{ℕ, zero, suc, _+_, _*_, _<_}
 use mathlib.Core.Path.{_≡_, refl, sym, _∙_}
 use mathlib.Core.List.{[], List·Memᴰ·not-nil}

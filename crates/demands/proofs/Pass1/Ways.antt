@@ -1,5 +1,5 @@
 -- Pass 1, the ways from the root to the tables, in the tables as they were: the walk of every address of a way's part goes it (way-walk),
--- a table stands in one place (way-one), and an entry that moves is where walks end (moved-at). On Passing. Assumes nothing.
+-- a table stands in one place (way-one), and an entry that moves is where walks end (moved-at). Builds on Passing. Assumes nothing.
 use Prim.Native.Nat.{ℕ, zero, suc, _+_, _*_, _%_, _<_, _≤_}
 use mathlib.Core.Path.{_≡_, refl, sym, _∙_, ap}
 use mathlib.Core.Option.{some}
@@ -12,8 +12,8 @@ use Rattle.definitions.specs.Pass1.{move}
 use Rattle.definitions.specs.Walk.{spot, onward, below, stopOf, reads}
 use Rattle.definitions.specs.Demand as T
 use Rattle.definitions.specs.Demand.{first, later}
-use Rattle.definitions.proofs.Geometry.{part-step, part-first}
 use Rattle.definitions.specs.declared.Moved.{Moved}
+use Rattle.definitions.proofs.Geometry.{part-step, part-first}
 use Rattle.demands.proofs.Shared.Walks.{word, stop-cont, cont-none, cont-some}
 use Rattle.demands.proofs.Shared.Paging.{Paging}
 use Rattle.demands.proofs.Pass1.Passing.{Passing, Sound, said, was, Goes, Way, Entry}

@@ -1,5 +1,5 @@
 -- Pass 2, what is said of one leaf `x` that is put in: what it leaves of every walk and word (Inserted), whether it was merged (Merges),
--- or why it is refused (Blocked); and where its way stands at a table (Comes). On Shared. Assumes nothing.
+-- or why it is refused (Blocked); and where its way stands at a table (Comes). Builds on Shared. Assumes nothing.
 use Prim.Native.Nat.{ℕ, suc, _+_, _*_, _<_, _≤_}
 use mathlib.Core.Path.{_≡_}
 use mathlib.Core.Logic.{_⊎_, inl, inr, ⊎-elim}

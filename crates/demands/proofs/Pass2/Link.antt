@@ -1,5 +1,5 @@
 -- Pass 2, a fresh table is linked at an absent entry on the way (Linked, link-step): the tables are Good still and the way goes on in it
--- (link-comes), and what is done from there on is done from here on (from). On Leaf and Write. Assumes nothing.
+-- (link-comes), and what is done from there on is done from here on (from). Builds on Leaf and Write. Assumes nothing.
 use Prim.Native.Nat.{ℕ, zero, suc, _+_, _*_, _%_, _<_, _≤_}
 use mathlib.Core.Path.{_≡_, refl, sym, _∙_, ap}
 use mathlib.Core.Logic.{_⊎_, inl, inr, ⊎-elim}
@@ -11,11 +11,11 @@ use Rattle.definitions.specs.Step.{Step, go, stop}
 use Rattle.definitions.specs.Ranges.{Kind, absent, table}
 use Rattle.definitions.specs.Pass2.{Fill}
 use Rattle.definitions.specs.Walk.{Spot, spot, nothing, endOf, tableOf, stopOf, endAt}
+use Rattle.definitions.specs.declared.Moved.{Moved}
+use Rattle.definitions.specs.declared.Place.{Place}
 use Rattle.definitions.proofs.Splits.{onEq, impossible}
 use Rattle.definitions.proofs.Puts.{put-same, put-other}
 use Rattle.definitions.proofs.Geometry.{part-step}
-use Rattle.definitions.specs.declared.Moved.{Moved}
-use Rattle.definitions.specs.declared.Place.{Place}
 use Rattle.demands.proofs.Shared.Walks.{Map, stand, On, Down, word, stop-cont, cont-none, cont-some}
 use Rattle.demands.proofs.Shared.Paging.{Paging, kindIn, linkIn, sizeIn, Lawful, at, walk, Addr}
 use Rattle.demands.proofs.Pass2.Leaf.{Fit, puts-wide, Blocked, leafWay, pastWay, differs, full, Ok, Comes}

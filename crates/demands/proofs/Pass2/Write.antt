@@ -1,5 +1,5 @@
 -- Pass 2, one entry on the way to a leaf's new address: which walks its change touches (either), and the leaf at it, where it stood
--- already (same-ok) or is written (write-ok). On Leaf. Assumes nothing.
+-- already (same-ok) or is written (write-ok). Builds on Leaf. Assumes nothing.
 use Prim.Native.Nat.{ℕ, suc, _+_, _*_, _/_, _%_, _<_}
 use mathlib.Core.Path.{_≡_, refl, sym, _∙_, ap}
 use mathlib.Core.Option.{none, some}
@@ -9,10 +9,10 @@ use Rattle.definitions.specs.Words.{Mem, put}
 use Rattle.definitions.specs.Geometry.{part}
 use Rattle.definitions.specs.Ranges.{Kind, absent}
 use Rattle.definitions.specs.Walk.{Spot, spot, nothing, endOf, tableOf, below, endAt}
+use Rattle.definitions.specs.declared.Moved.{Moved}
 use Rattle.definitions.proofs.Splits.{onEq, impossible}
 use Rattle.definitions.proofs.Puts.{put-same, put-other}
 use Rattle.definitions.proofs.Geometry.{part-step}
-use Rattle.definitions.specs.declared.Moved.{Moved}
 use Rattle.demands.proofs.Shared.Walks.{word, word-table, word-entry, cont, stop-cont, cont-none, changed}
 use Rattle.demands.proofs.Shared.Paging.{Paging, kindIn, Lawful, at, walk, Addr, ended}
 use Rattle.demands.proofs.Pass2.Leaf.{Fit, Inserted, Comes}

@@ -1,5 +1,5 @@
 -- The words in which both passes are spoken of: tables at their new place (Paging), what their entries obey (Lawful), the walk of an
--- address (at, walk), and what holds of the tables between any two moves (Good): each has one place. On Walks. Assumes nothing.
+-- address (at, walk), and what holds of the tables between any two moves (Good): each has one place. Builds on Walks. Assumes nothing.
 use Prim.Native.Nat.{ℕ, _*_, _<_, _≤_}
 use mathlib.Core.Path.{_≡_}
 use mathlib.Core.Option.{some}
