@@ -71,5 +71,5 @@ module _ (j : Job) (proper : Proper j) (good : Good j) {s : State} (X : Fixed (p
       omega (arith, R .lower (x .address) r, stop-same j proper good X (x .address) r)
   no-bad-places n q (onOther {b} {x} m el st some other) = other (sym (still (x .address) (there b x m) st some) ∙ in-place b x m)
   no-bad-places n q (noRoom m lo le ps d need h) =
-      let most = within-length ps (grew .places) d (λ p e. grew .all p (needed-back j p (need p e))) in
-      omega (arith, grew .grown, R .fits (used-fits j good), tables-same j)
+      let most = within-length ps (grew .list) d (λ p e. grew .all p (needed-back j p (need p e))) in
+      omega (arith, grew .count, R .fits (used-fits j good), tables-same j)

@@ -1,9 +1,9 @@
 -- Both passes, over any tables that meet the laws: every walk afterwards (Walks, walks), and the tables taken (Taken, needs).
 -- Builds on Pass1.Passing and Pass2. Assumes nothing.
-use Prim.Native.Nat.{ℕ, _+_, _<_, _≤_}
+use Prim.Native.Nat.{ℕ, _<_, _≤_}
 use mathlib.Core.Path.{_≡_, refl, _∙_}
 use mathlib.Core.Option.{none}
-use mathlib.Core.List.{List, List·Memᴰ}
+use mathlib.Core.List.{List·Memᴰ}
 use native.Mathlib.Omega.{arith}
 use lib.ListN.{length}
 use Rattle.definitions.specs.Words.{Mem}
@@ -12,12 +12,14 @@ use Rattle.definitions.specs.Ranges.{Kind}
 use Rattle.definitions.specs.Pass1.{Act, keep, move, follow, refuse, State}
 use Rattle.definitions.specs.Pass2.{Fill}
 use Rattle.definitions.specs.Walk.{End, nothing, wild, inLeaf, endOf, endAt, below, reads}
-use Rattle.definitions.specs.Demand.{TablePlace, Distinct}
+use Rattle.definitions.specs.Demand.{TablePlace}
 use Rattle.definitions.specs.declared.Moved.{Moved}
+use Rattle.demands.proofs.Shared.Lists.{Counts, counts-same}
 use Rattle.demands.proofs.Shared.Walks.{reads-low, reads-few, not-wild, lev-le}
 use Rattle.demands.proofs.Shared.Paging.{Paging, kindIn, Lawful, In, Addr, at, walk, ended}
 use Rattle.demands.proofs.Pass1.Passing.{Passing, Sound, said, was, GoesAt, Goes, Stop, Fixed}
 use Rattle.demands.proofs.Pass2.Leaf.{Fit}
+use Rattle.demands.proofs.Pass2.Growth.{Need}
 use Rattle.demands.proofs.Pass2.Leaves.{AllIn}
 
 module _ (K : Passing) where
@@ -44,12 +46,8 @@ module _ (K : Passing) where
     pub missing : p .height ≤ was K (by .address) .level
 
   -- the used tables, now `u`, have grown by one for each such place
-  pub record Taken (u : ℕ) : Type 0 where
-    pub places : List TablePlace
-    pub distinct : Distinct places
-    pub all : (p : TablePlace) → Needed p → List·Memᴰ p places
-    pub only : (p : TablePlace) → List·Memᴰ p places → Needed p
-    pub grown : u ≡ used + length places
+  abbrev pub Taken : ℕ → Type 0
+  Taken u = Counts Needed used u
 
 module _ {K : Passing} (S : Sound K) {s : State} (F : Fixed K s) where
   open Passing K using (paging as W, old, act, used, m₀)
@@ -115,23 +113,17 @@ module _ {K : Passing} (S : Sound K) {s : State} (F : Fixed K s) where
         }
 
     pub needs : Taken K (f .next)
-    needs =
-        record {
-          places = R .grown .places;
-          distinct = R .grown .distinct;
-          all = λ p n. R .grown .all p (record {
-            by = n .by;
-            one = listed (n .by) (n .moved);
-            above = n .above;
-            way = n .way;
-            missing = rw (same (n .by) (n .moved)) (n .missing);
-          });
-          only = λ p e.
-              let n = R .grown .only p e in
-              let o = F .sound (n .by) (n .one) in
-              record { by = n .by; moved = o; above = n .above; way = n .way; missing = rw (same (n .by) o) at (n .missing) };
-          grown = R .grown .grown;
-        }
+    needs = counts-same to from (R .grown)
       where
         same : (x : Moved) → Goes K x → at W (s .mem) (x .address) ≡ was K (x .address)
         same x o = F .same (x .address) (fits x o .address)
+
+        to : (p : TablePlace) → Needed K p → Need W (s .moved) (s .mem) p
+        to p n =
+            let missing : p .height ≤ at W (s .mem) (n .by .address) .level = rw (same (n .by) (n .moved)) (n .missing) in
+            record { by = n .by; one = listed (n .by) (n .moved); above = n .above; way = n .way; missing = missing }
+
+        from : (p : TablePlace) → Need W (s .moved) (s .mem) p → Needed K p
+        from p n =
+            let o = F .sound (n .by) (n .one) in
+            record { by = n .by; moved = o; above = n .above; way = n .way; missing = rw (same (n .by) o) at (n .missing) }
