@@ -1,6 +1,6 @@
 -- What both passes share.
 
--- Lists: lists with no element twice
+-- Lists: lists with no element twice, and what they count
 pub mod Lists
 -- Walks: the walk of an address through tables in a memory of words
 pub mod Walks
