@@ -1,5 +1,5 @@
 -- The bytes of an accepted build's output: their words are the words that demand 3 speaks of (output-words), so its walks are
--- walks in the buffer. Assumes nothing.
+-- walks in the buffer (after-in). Builds on Both. Assumes nothing.
 use Prim.Native.Nat.{ℕ, _+_, _*_, _/_, _%_, _^_, _<_}
 use mathlib.Core.Path.{_≡_, refl}
 use mathlib.Core.List.{List, List·Memᴰ}
@@ -15,17 +15,17 @@ use Rattle.definitions.specs.Pass1.{Act, keep, move, follow, refuse}
 use Rattle.definitions.specs.Build.{geometry, height, root, planOf, build, outputBytes}
 use Rattle.definitions.specs.Walk.{walk}
 use Rattle.definitions.specs.Demand.{Proper, after, entryBefore, actAt, remains}
+use Rattle.definitions.specs.declared.Moved.{Moved}
 use Rattle.definitions.proofs.Entry.{address-word, leaf-word}
 use Rattle.definitions.proofs.Splits.{onBool}
 use Rattle.definitions.proofs.Ranges.{region-sound}
 use Rattle.definitions.proofs.Acts.{Means, act-means}
 use Rattle.definitions.proofs.Buffers.{words-bytes}
-use Rattle.definitions.specs.declared.Moved.{Moved}
-use Rattle.demands.proofs.Insert.{Puts}
-use Rattle.demands.proofs.Sound.{paging, plan-is, sound, moved-pointer, new-table}
-use Rattle.demands.proofs.Bridge.{moved, old}
-use Rattle.demands.proofs.Exact.{used-fits}
-use Rattle.demands.proofs.Outcome.{Ran, accepts, accepted-output}
+use Rattle.demands.proofs.Pass2.Leaf.{Puts}
+use Rattle.demands.proofs.Both.Sound.{paging, plan-is, moved-pointer, new-table}
+use Rattle.demands.proofs.Both.Bridge.{moved, old}
+use Rattle.demands.proofs.Both.Outcome.{Ran, accepts, accepted-output}
+use Rattle.demands.proofs.Both.Left.{used-fits}
 
 module _ (j : Job) (proper : Proper j) (R : Ran j (build j)) where
   -- what pass 1 leaves
@@ -59,7 +59,7 @@ module _ (j : Job) (proper : Proper j) (R : Ran j (build j)) where
       let d = old j (o .0) x (moved j x o) in
       ⊎-elim
       (λ c. rw (c .1, d .entry) (leaf-word (x .level) (entryBefore j (o .0)) (x .address) (d .low) (d .whole) (d .field) (proper .image _)))
-      (λ c. rw (c .4) (omega (arith, new-table j proper (R .good) (c .1) (omega (arith, c .3, R .filled .fits (used-fits j proper (R .good) (R .s) (R .fixed)))))))
+      (λ c. rw (c .4) (omega (arith, new-table j proper (R .good) (c .1) (omega (arith, c .3, R .filled .fits (used-fits j (R .good)))))))
       p
 
   word : (k : ℕ) → R .f .mem k < 2 ^ 64
@@ -74,7 +74,7 @@ module _ (j : Job) (proper : Proper j) (R : Ran j (build j)) where
   unfolding allTables
   past k h =
       let a = region-sound (geometry j .limit) (j .region) (R .good .region) in
-      R .filled .good .free k (omega (arith, R .good .output, a .size, plan-is j .size, R .filled .fits (used-fits j proper (R .good) (R .s) (R .fixed))))
+      R .filled .good .free k (omega (arith, R .good .output, a .size, plan-is j .size, R .filled .fits (used-fits j (R .good))))
 
 pub output-words : (j : Job) → Proper j → build j .report .number ≡ 0 → wordsOf (outputBytes j) ≡ build j .output
 unfolding outputBytes
@@ -83,6 +83,7 @@ output-words j proper zero-number =
     rw (accepted-output j R) (words-bytes (j .outputLength) (R .f .mem) (word j proper R) (past j proper R))
 
 -- the walks of demand 3 are walks in the bytes that the build leaves
-pub after-in : (j : Job) → Proper j → build j .report .number ≡ 0 → (out : List ℕ) → out ≡ outputBytes j → (a : ℕ) → after j a ≡ walk (kind (planOf j .new)) (height j) (wordsOf out) (root j) a
+pub after-in : (j : Job) → Proper j → build j .report .number ≡ 0 → (out : List ℕ) → out ≡ outputBytes j → (a : ℕ)
+    → after j a ≡ walk (kind (planOf j .new)) (height j) (wordsOf out) (root j) a
 unfolding after
 after-in j proper zero-number out e a = rw (e, output-words j proper zero-number) refl

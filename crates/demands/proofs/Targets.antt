@@ -1,5 +1,5 @@
 -- Offsets in true numbers: a moved leaf goes up or down by its offset (moved-by), and 13 is given exactly where
--- the true new span leaves 0 to the bound (too-far-iff). Assumes nothing.
+-- the true new span leaves 0 to the bound (too-far-iff). Builds on Both. Assumes nothing.
 use Prim.Native.Nat.{ℕ, suc, _+_, _*_, _^_, _<_, _≤_}
 use mathlib.Core.Path.{_≡_, refl}
 use mathlib.Core.Logic.{inl, inr, ⊎-elim, _↔_}
@@ -11,17 +11,19 @@ use Rattle.definitions.specs.Ranges.{shift, decide, shifted}
 use Rattle.definitions.specs.Offset.{signed, Fits}
 use Rattle.definitions.specs.Pass1.{refuse, act}
 use Rattle.definitions.specs.Build.{geometry, height, planOf}
-use Rattle.definitions.specs.Demand.{Proper, Reached, stopBefore, entryBefore, fate, Moves, MovedBy}
-use Rattle.definitions.specs.Conditions.{BadEntry, inTail, intoMoved, notWhole, tooFar, BadTables, bad, again, twice, taken, crowded, BadPlaces, onLeaf, inSpan, onPast, onTable, onOther, noRoom, Refusal, TooFar}
+use Rattle.definitions.specs.Demand.{Proper, Reached, stopBefore, entryBefore, Moves, MovedBy}
+use Rattle.definitions.specs.Conditions.{BadEntry, inTail, intoMoved, notWhole, tooFar, BadTables, bad, again, twice, taken, crowded, Refusal, TooFar}
+use Rattle.definitions.specs.declared.Moved.{Moved}
+use Rattle.definitions.specs.declared.Place.{Place}
 use Rattle.definitions.proofs.Geometry.{span-pos, part-step, part-first, part-below}
-use Rattle.definitions.proofs.Acts.{MovesAs, act-means}
+use Rattle.definitions.proofs.Acts.{MovesAs}
 use Rattle.definitions.proofs.Conditions.{refuse-iff}
 use Rattle.definitions.proofs.Offset.{deciding-offsets, decide-offset, target-shifted, past-iff}
 use Rattle.definitions.proofs.Checks.{bad-input-number, geometry-sound}
-use Rattle.definitions.specs.declared.Moved.{Moved}
-use Rattle.definitions.specs.declared.Place.{Place}
-use Rattle.demands.proofs.Visit.{way-part}
-use Rattle.demands.proofs.Sound.{plan-is}
+use Rattle.demands.proofs.Pass1.Ways.{way-part}
+use Rattle.demands.proofs.Both.Sound.{plan-is}
+use Rattle.demands.proofs.Both.Bridge.{moves-as}
+use Rattle.demands.proofs.Both.Numbers.{entry-bad, places-number}
 
 part-le : (l b : ℕ) → part l b * span l ≤ b
 unfolding part
@@ -33,17 +35,20 @@ module _ (j : Job) (proper : Proper j) where
   offset-word l a o = decide-offset _ (deciding-offsets (j .region) (j .tableOffset) (j .words) (proper .offset) (proper .words)) l a o
 
   pub moved-by : (b : ℕ) (x : Moved) → Moves j b x → MovedBy j b x
-  unfolding fate
-  moved-by b x m =
-      let l = stopBefore j b .level in
-      let a : MovesAs (planOf j) l (part l b * span l) (entryBefore j b) x = rw (m .moves) at (act-means (planOf j) l (part l b * span l) (entryBefore j b)) in
-      let lo : part l b * span l < 2 ^ 63 = omega (arith, part-le l b, m .walked, geometry-sound (j .cr4) .word) in
-      let hi : shifted (part l b * span l) (a .offset) < 2 ^ 63 = omega (arith, a .fits, plan-is j .limit, geometry-sound (j .cr4) .field, span-pos l) in
-      record {
-        offset = a .offset;
-        decided = rw (a .level) (a .decided);
-        target = rw (a .level, a .address) (target-shifted (part l b * span l) (a .offset) lo (offset-word l _ (a .offset) (a .decided)) hi);
-      }
+  moved-by b x m = turn (moves-as j b x m)
+    where
+      l : ℕ
+      l = stopBefore j b .level
+
+      turn : MovesAs (planOf j) l (part l b * span l) (entryBefore j b) x → MovedBy j b x
+      turn a =
+          let lo : part l b * span l < 2 ^ 63 = omega (arith, part-le l b, m .walked, geometry-sound (j .cr4) .word) in
+          let hi : shifted (part l b * span l) (a .offset) < 2 ^ 63 = omega (arith, a .fits, plan-is j .limit, geometry-sound (j .cr4) .field, span-pos l) in
+          record {
+            offset = a .offset;
+            decided = rw (a .level) (a .decided);
+            target = rw (a .level, a .address) (target-shifted (part l b * span l) (a .offset) lo (offset-word l _ (a .offset) (a .decided)) hi);
+          }
 
   -- ---- number 13
 
@@ -56,27 +61,34 @@ module _ (j : Job) (proper : Proper j) where
       let lo : a < 2 ^ 63 = omega (arith, part-below (height j) a z, geometry-sound (j .cr4) .word) in
       rw (plan-is j .limit) (past-iff a o lo (offset-word l a o ed) (geometry j .limit) (omega (arith, geometry-sound (j .cr4) .field)) (span l) (span-pos l))
 
-  far-entry : (t l p i : ℕ) → i < 512 → Reached j t (suc l) p → (n : ℕ) (q : Place) → n ≡ 13 → BadEntry (planOf j) l ((p * 512 + i) * span l) (j .image (512 * t + i)) n q → TooFar j q
+  far-entry : (t l p i : ℕ) → i < 512 → Reached j t (suc l) p → (n : ℕ) (q : Place) → n ≡ 13
+      → BadEntry (planOf j) l ((p * 512 + i) * span l) (j .image (512 * t + i)) n q → TooFar j q
   far-entry t l p i low way n q e (inTail ek h) = absurd (omega arith)
   far-entry t l p i low way n q e (intoMoved ek h) = absurd (omega arith)
   far-entry t l p i low way n q e (notWhole ek ed h) = absurd (omega arith)
   far-entry t l p i low way n q e (tooFar {o} ek ed eo h) =
-      record { t = t; l = l; p = p; i = i; low = low; way = way; isLeaf = rw (plan-is j .old) at ek; offset = o; decided = ed; whole = eo; leaves = far-iff t l p i o low way ed .0 h; place = refl }
+      record {
+        t = t;
+        l = l;
+        p = p;
+        i = i;
+        low = low;
+        way = way;
+        isLeaf = rw (plan-is j .old) at ek;
+        offset = o;
+        decided = ed;
+        whole = eo;
+        leaves = far-iff t l p i o low way ed .0 h;
+        place = refl;
+      }
 
   far-tables : (n : ℕ) (q : Place) → n ≡ 13 → BadTables j n q → TooFar j q
-  far-tables n q e (bad c) = far-entry (c .t) (c .l) (c .p) (c .i) (c .low) (c .way) n q e (refuse-iff (planOf j) (c .l) ((c .p * 512 + c .i) * span (c .l)) (j .image (512 * c .t + c .i)) n q .0 (c .acted))
+  far-tables n q e (bad c) =
+      far-entry (c .t) (c .l) (c .p) (c .i) (c .low) (c .way) n q e (entry-bad j (c .t) (c .l) (c .p) (c .i) n q (c .acted))
   far-tables n q e (again a w) = absurd (omega arith)
   far-tables n q e (twice a b ne w) = absurd (omega arith)
   far-tables n q e (taken a b ne d w) = absurd (omega arith)
   far-tables n q e (crowded a xs d from more w) = absurd (omega arith)
-
-  places-number : (n : ℕ) (q : Place) → BadPlaces j n q → 15 < n
-  places-number n q (onLeaf m lo w st) = omega arith
-  places-number n q (inSpan m land lo) = omega arith
-  places-number n q (onPast m lo w) = omega arith
-  places-number n q (onTable m lo) = omega arith
-  places-number n q (onOther m el st some other) = omega arith
-  places-number n q (noRoom m lo le ps d need h) = omega arith
 
   far-refused : (q : Place) → TooFar j q → Refusal j 13 q
   far-refused q f =
@@ -84,12 +96,13 @@ module _ (j : Job) (proper : Proper j) where
       let e : ℕ = j .image (512 * f .t + f .i) in
       let w : act (planOf j) (f .l) a e ≡ refuse 13 (placeWith a (f .l) (f .offset)) =
       refuse-iff (planOf j) (f .l) a e 13 (placeWith a (f .l) (f .offset)) .1
-      (tooFar (rw (plan-is j .old) (f .isLeaf)) (f .decided) (f .whole) (far-iff (f .t) (f .l) (f .p) (f .i) (f .offset) (f .low) (f .way) (f .decided) .1 (f .leaves))) in
+      (tooFar (rw (plan-is j .old) (f .isLeaf)) (f .decided) (f .whole)
+      (far-iff (f .t) (f .l) (f .p) (f .i) (f .offset) (f .low) (f .way) (f .decided) .1 (f .leaves))) in
       inr (inl (bad {n = 13} {q = q} (record { t = f .t; l = f .l; p = f .p; i = f .i; low = f .low; way = f .way; acted = rw (f .place) w })))
 
   -- 13 is given exactly where the true new span of a leaf is not within 0 and the bound
   pub too-far-iff : (q : Place) → Refusal j 13 q ↔ TooFar j q
   too-far-iff q = (
-    ⊎-elim (λ b. absurd (omega (arith, bad-input-number j 13 q b .1))) (⊎-elim (far-tables 13 q refl) (λ b. absurd (omega (arith, places-number 13 q b)))),
+    ⊎-elim (λ b. absurd (omega (arith, bad-input-number j 13 q b .1))) (⊎-elim (far-tables 13 q refl) (λ b. absurd (omega (arith, places-number j 13 q b)))),
     far-refused q,
   )

@@ -1,5 +1,5 @@
 -- What an accepted build leaves alone: tables that no walk reads, entries that no move touches, the free tail
--- (untouched). Assumes nothing.
+-- (untouched). Builds on Both. Assumes nothing.
 use Prim.Native.Nat.{ℕ, suc, _+_, _*_, _/_, _%_, _≤_, _<_}
 use mathlib.Core.Path.{_≡_, refl, sym, _∙_, ap}
 use mathlib.Core.Bool.{true, false}
@@ -14,17 +14,18 @@ use Rattle.definitions.specs.Ranges.{Kind, absent, leaf, outside, table, usedTa
 use Rattle.definitions.specs.Build.{geometry, height, planOf, build}
 use Rattle.definitions.specs.Walk.{nothing, endOf, endAt}
 use Rattle.definitions.specs.Demand.{Proper, IsRead, readsBefore, Reached, Written, leafIn, tableIn, Became, Untouched}
+use Rattle.definitions.specs.declared.Moved.{Moved}
 use Rattle.definitions.proofs.Splits.{onBool, impossible}
 use Rattle.definitions.proofs.Geometry.{part-below}
 use Rattle.definitions.proofs.Ranges.{region-sound}
 use Rattle.definitions.proofs.Kind.{kind-tells}
-use Rattle.definitions.specs.declared.Moved.{Moved}
-use Rattle.demands.proofs.Insert.{at, Puts, Wrote, ended}
-use Rattle.demands.proofs.Visit.{Sound}
-use Rattle.demands.proofs.Sound.{paging, passing, sound}
-use Rattle.demands.proofs.Final.{fits, tables-before}
-use Rattle.demands.proofs.Bridge.{addr, moved}
-use Rattle.demands.proofs.Outcome.{Ran, accepted-used, accepted-output}
+use Rattle.demands.proofs.Shared.Paging.{at, ended}
+use Rattle.demands.proofs.Pass1.Passing.{Sound}
+use Rattle.demands.proofs.Pass2.Leaf.{Puts, Wrote}
+use Rattle.demands.proofs.Both.Passes.{fits, tables-before}
+use Rattle.demands.proofs.Both.Sound.{paging, passing, sound}
+use Rattle.demands.proofs.Both.Bridge.{addr, moved}
+use Rattle.demands.proofs.Both.Outcome.{Ran, accepted-used, accepted-output}
 
 -- a walk that finds nothing ends at an absent entry
 end-absent : (k : Kind) (l e : ℕ) → endOf k l e ≡ nothing → k ≡ absent
@@ -35,7 +36,7 @@ end-absent outside l e w = impossible (cc)
 end-absent (table t) l e w = impossible (cc)
 
 module _ (j : Job) (proper : Proper j) (R : Ran j (build j)) where
-  S : Sound (paging j) (passing j)
+  S : Sound (passing j)
   S = sound j proper (R .good)
 
   abbrev m₁ : Mem
@@ -58,7 +59,7 @@ module _ (j : Job) (proper : Proper j) (R : Ran j (build j)) where
     -- the table is reached, and the entry maps the new address of x
     stands : (R .fixed .good .P .ht t ≡ suc level) × (R .fixed .good .P .pre t * 512 + i ≡ part level (x .address))
     stands =
-        let d = ended (paging j) (S .lawful) m₁ u (R .fixed .good) (x .address) (fits (paging j) (passing j) S (R .s) (R .fixed) x (R .fixed .sound x e) .address) in
+        let d = ended (paging j) (S .lawful) m₁ u (R .fixed .good) (x .address) (fits S (R .fixed) x (R .fixed .sound x e) .address) in
         let et : at (paging j) m₁ (x .address) .at / 512 ≡ t = omega (arith, w .place) in
         let ei : at (paging j) m₁ (x .address) .at % 512 ≡ i = omega (arith, w .place) in
         (rw et at (d .height), rw (et, ei) at (d .prefix))
@@ -79,7 +80,7 @@ module _ (j : Job) (proper : Proper j) (R : Ran j (build j)) where
 
   read-iff : (t : ℕ) → IsRead j t ↔ ((l : ℕ) × (p : ℕ) × Reached j t (suc l) p)
   unfolding readsBefore
-  read-iff t = ((λ r. R .fixed .way t (R .fixed .seen (r .0) (addr j (r .0) (r .1)) t (r .2))), λ w. is-read t (R .fixed .ways (w .2) (omega arith) .0))
+  read-iff t = ((λ r. R .fixed .way t (R .fixed .seen (r .0) (addr j (r .0) (r .1)) t (r .2))), λ w. is-read t (R .fixed .ways (w .2) (omega arith) .seen))
 
   at-word : (k : ℕ) → build j .output k ≡ R .f .mem k
   at-word k = ap (λ (m : Mem). m k) (accepted-output j R)
@@ -96,11 +97,14 @@ module _ (j : Job) (proper : Proper j) (R : Ran j (build j)) where
   entries : (t l p i : ℕ) → Reached j t (suc l) p → i < 512 → Became j l (p * 512 + i) (j .image (512 * t + i)) (build j .output (512 * t + i))
   entries t l p i way hi =
       let c = R .fixed .ways way (omega arith) in
-      let r = R .fixed .read t (c .0) in
-      let lt = tables-before (paging j) (passing j) S (R .s) (R .fixed) (r .0) (r .1) t (r .2) in
+      let r = R .fixed .read t (c .seen) in
+      let lt = tables-before S (R .fixed) (r .0) (r .1) t (r .2) in
       let left = R .fixed .entries t l p i way hi in
       ⊎-elim (λ e. inl (at-word (512 * t + i) ∙ e ∙ left))
-      (λ w. inr (rw left at (was-absent (w .0) (w .1) t i _ hi (w .2)), rw (at-word (512 * t + i)) (written-at (w .0) (w .1) t i _ hi (w .2) l p (c .1) (c .2))))
+      (λ w. inr (
+        rw left at (was-absent (w .0) (w .1) t i _ hi (w .2)),
+        rw (at-word (512 * t + i)) (written-at (w .0) (w .1) t i _ hi (w .2) l p (c .height) (c .prefix)),
+      ))
       (R .filled .words (512 * t + i) (omega arith))
 
   fresh : (k : ℕ) → j .region .used ≤ 8 * k → (build j .output k ≡ 0) ⊎ ((l : ℕ) × (p : ℕ) × Written j l p (build j .output k))
@@ -111,4 +115,11 @@ module _ (j : Job) (proper : Proper j) (R : Ran j (build j)) where
       (R .filled .news k (omega (arith, region-sound (geometry j .limit) (j .region) (R .good .region) .used))))
 
   pub untouched : Untouched j
-  untouched = record { read = read-iff; unread = unread; entries = entries; fresh = fresh; zeros = λ k h. at-word k ∙ R .filled .good .free k (omega (arith, accepted-used j R)) }
+  untouched =
+      record {
+        read = read-iff;
+        unread = unread;
+        entries = entries;
+        fresh = fresh;
+        zeros = λ k h. at-word k ∙ R .filled .good .free k (omega (arith, accepted-used j R));
+      }

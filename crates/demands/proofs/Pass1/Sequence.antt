@@ -27,7 +27,7 @@ earlier-total l p l₁ p₁ =
     (λ n. elim (decLe (p * span l) (p₁ * span l₁)) [ yes h ↦ inl (inl (omega arith)) | no h ↦ inr (inl (inl (omega arith))) ])
 
 -- entry i of the table that an entry of level suc l leads to comes after that entry
-pub under-from : (l p i : ℕ) → p * span (suc l) ≤ (p * 512 + i) * span l
+under-from : (l p i : ℕ) → p * span (suc l) ≤ (p * 512 + i) * span l
 under-from l p i = rw (span-suc l) (omega arith)
 
 pub earlier-under : (l p i : ℕ) → Earlier (suc l) p l (p * 512 + i)
