@@ -1,3 +1,6 @@
+-- `decode` writes one word after the other. What is proved is that it ends, stays in bounds and keeps the list's length.
+-- Invariant: the place is not past the end, and the list is as long as at entry. Measure: the words left.
+-- Assumes nothing.
 use Prim.Native.Nat.{_≤_, _-_}
 use borrow.Author.Needs.{needs}
 use mathlib.Core.Path.{_≡_}
