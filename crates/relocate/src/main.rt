@@ -16,6 +16,7 @@ const WORDS_MAX: usize = 3072;
 
 const ROOM: usize = 393216;
 
+// The numbers of the command line.
 struct Asked {
     gpa: u64,
     size: u64,
@@ -24,6 +25,7 @@ struct Asked {
     offset: u64,
 }
 
+// The command line's numbers, or one of them is none.
 enum Given {
     All(Asked),
     Refused,
@@ -49,6 +51,7 @@ fn front(s: &[u8], n: usize) -> &[u8] {
     if n <= s.len() { &s[0..n] } else { s }
 }
 
+// The same of words.
 fn front_words(s: &[u64], n: usize) -> &[u64] {
     if n <= s.len() { &s[0..n] } else { s }
 }
@@ -155,14 +158,11 @@ fn load(at: usize, what: &[u8], limit: &[u8], buf: &mut [u8]) -> Loaded {
     loaded
 }
 
-// The records as words.
+// The records as words, and zeros past their end.
 fn decode(records: &[u8], words: &mut [u64]) {
     let mut i: usize = 0;
     while i < words.len() {
-        if records.len() / 8 <= i {
-            return;
-        }
-        words[i] = words::read_word(records, i);
+        words[i] = tables::word_at(records, i);
         i += 1;
     }
 }
