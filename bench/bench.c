@@ -1,13 +1,9 @@
 /* Times the proved build: a full region, and how the time grows with the moved leaves. */
-#include <stdint.h>
+#include "../include/archwend.h"
 #include <stdio.h>
 #include <stdlib.h>
 #include <string.h>
 #include <time.h>
-
-void archwend_build(const uint8_t *image, size_t image_len, uint8_t *output, size_t output_len, uint64_t *scratch,
-                    size_t scratch_len, const uint64_t *ranges, size_t ranges_len, uint64_t gpa, uint64_t size,
-                    uint64_t used, uint64_t cr3, uint64_t cr4, uint64_t table_offset, uint64_t *report);
 
 enum { PAGE = 4096, TABLES = 512, ROOM = 3 * 131072 };
 
@@ -70,9 +66,11 @@ static double build(size_t count, uint64_t used, uint64_t size, uint64_t room, u
                        used * PAGE, gpa, 0, 0, report);
         double took = now() - begun;
         if (took < best) best = took;
-        if (report[0] != 0 || report[2] != n || report[3] != 0 || report[1] != (used + (n + 511) / 512) * PAGE) {
-            fprintf(stderr, "bench: number %d, used 0x%lx, moved %lu, merged %lu\n", (int)report[0],
-                    (unsigned long)report[1], (unsigned long)report[2], (unsigned long)report[3]);
+        if (report[ARCHWEND_NUMBER] != ARCHWEND_OK || report[ARCHWEND_MOVED] != n || report[ARCHWEND_MERGED] != 0 ||
+            report[ARCHWEND_USED] != (used + (n + 511) / 512) * PAGE) {
+            fprintf(stderr, "bench: number %d, used 0x%lx, moved %lu, merged %lu\n", (int)report[ARCHWEND_NUMBER],
+                    (unsigned long)report[ARCHWEND_USED], (unsigned long)report[ARCHWEND_MOVED],
+                    (unsigned long)report[ARCHWEND_MERGED]);
             exit(1);
         }
     }

@@ -15,24 +15,24 @@ extern "C" {
 /* Refusals; ARCHWEND_OK is an answer without one. */
 enum archwend_number {
     ARCHWEND_OK = 0,
-    ARCHWEND_REGION = 1,            /* region not whole pages, empty, above 512 tables, past 2^48, or used above size */
-    ARCHWEND_PAGE_LENGTH = 2,       /* page data not 4096 bytes */
-    ARCHWEND_PAGE_GPA = 3,          /* page outside the region, or not a multiple of 4096 */
-    ARCHWEND_LENGTHS = 4,           /* image not `used` bytes, or output shorter than `size` */
-    ARCHWEND_FIVE_LEVELS = 5,       /* cr4 has bit 0x1000 */
-    ARCHWEND_CR3 = 6,               /* cr3 not in the region */
-    ARCHWEND_TABLE_OFFSET = 7,      /* no multiple of 4096, or the moved region leaves 0 to 2^48 */
-    ARCHWEND_RANGES = 8,            /* too many, not ascending, past 2^48, over the region, or not in threes */
-    ARCHWEND_FREE_TAIL = 9,         /* a table, or the page of a load, in the free tail of the region */
-    ARCHWEND_SHARED_TABLE = 10,     /* a table reached twice */
-    ARCHWEND_INTO_MOVED = 11,       /* a pointer into the moved region from outside the old one */
-    ARCHWEND_UNALIGNED_OFFSET = 12, /* an offset no multiple of the size that the entry maps */
-    ARCHWEND_OUT_OF_BOUNDS = 13,    /* a leaf would leave 0 to 2^48 */
+    ARCHWEND_REGION = 1,            /* the region is not whole pages, is empty, has more than 512 tables, ends past 2^48, or uses more than its size */
+    ARCHWEND_PAGE_LENGTH = 2,       /* the page data is not 4096 bytes long */
+    ARCHWEND_PAGE_GPA = 3,          /* the page's address is outside the region, or not a multiple of 4096 */
+    ARCHWEND_LENGTHS = 4,           /* the image is not as long as the used part, or the output is shorter than the region */
+    ARCHWEND_FIVE_LEVELS = 5,       /* cr4 asks for five levels (bit 0x1000) */
+    ARCHWEND_CR3 = 6,               /* cr3 is not in the region */
+    ARCHWEND_TABLE_OFFSET = 7,      /* the table offset is not a multiple of 4096, or moves the region out of 0 to 2^48 */
+    ARCHWEND_RANGES = 8,            /* the ranges are more than 1024, not words in threes or not ascending, or one is empty, past 2^48 or over the region */
+    ARCHWEND_FREE_TAIL = 9,         /* a table, or the page of a load, lies in the free tail of the region */
+    ARCHWEND_SHARED_TABLE = 10,     /* a table is reached twice */
+    ARCHWEND_INTO_MOVED = 11,       /* an entry points outside the old region but into the moved one */
+    ARCHWEND_UNALIGNED_OFFSET = 12, /* an offset is not a multiple of the size that the entry maps */
+    ARCHWEND_OUT_OF_BOUNDS = 13,    /* a leaf would move out of 0 to 2^48 */
     ARCHWEND_SAME_ADDRESS = 14,     /* two leaves would move to one address */
-    ARCHWEND_SCRATCH_FULL = 15,     /* no room for another moved leaf */
-    ARCHWEND_LARGE_IN_THE_WAY = 16, /* a large leaf above a moved leaf's new place */
+    ARCHWEND_SCRATCH_FULL = 15,     /* the scratch has no room for another moved leaf */
+    ARCHWEND_LARGE_IN_THE_WAY = 16, /* a large leaf stands in the way of a moved leaf */
     ARCHWEND_WAY_OUTSIDE = 17,      /* the way to a moved leaf leaves the moved region */
-    ARCHWEND_OCCUPIED = 18,         /* another entry at a moved leaf's new place */
+    ARCHWEND_OCCUPIED = 18,         /* a different entry stands where a moved leaf goes */
     ARCHWEND_NO_FREE_TABLE = 19     /* the region has no free table left */
 };
 

@@ -5,9 +5,9 @@ host_tools
 library
 out=$PWD/../target/oracle
 build() {
-  local profile
-  for profile in "${@:2}"; do
-    "$CARGO" build --quiet --offline --profile "$profile" $X86 --target-dir "$out" -p compare --bin "$1"
-  done
+    local profile
+    for profile in "${@:2}"; do
+        "$CARGO" build --quiet --offline --profile "$profile" $X86 --target-dir "$out" -p compare --bin "$1"
+    done
 }
 run() { ${RUN_X86:-} "$out/$X86_TARGET/$1/$2" "${@:3}"; }

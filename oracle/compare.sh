@@ -17,12 +17,12 @@ jobs_of checked || failed=1
 wait $first || failed=1
 cat "$said/release" "$said/checked"
 if [ $failed != 0 ]; then
-  echo "compare: FAILED (seed $seed)"
-  exit 1
+    echo "compare: FAILED (seed $seed)"
+    exit 1
 fi
 same=$(tail -qn1 "$said/release" "$said/checked" | sed 's/^[a-z ]*: //' | sort -u)
 if [ "$(echo "$same" | wc -l)" != 1 ]; then
-  echo "compare: FAILED: the two builds counted differently (seed $seed)"
-  exit 1
+    echo "compare: FAILED: the two builds counted differently (seed $seed)"
+    exit 1
 fi
 echo "compare: seed $seed, both builds: $same"

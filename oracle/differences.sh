@@ -5,9 +5,9 @@ set -euo pipefail
 . "$(dirname "$0")/common.sh"
 build differences release checked
 if [ "${1:-}" = record ]; then
-  run release differences differences.txt record >"$out/half.txt"
-  run checked differences "$out/half.txt" record
-  exit
+    run release differences differences.txt record >"$out/half.txt"
+    run checked differences "$out/half.txt" record
+    exit
 fi
 run release differences differences.txt
 run checked differences differences.txt

@@ -3,30 +3,18 @@
 # error, and that OUTPUT is touched only on acceptance. Exit status 0: all as expected.
 set -euo pipefail
 root=$(cd "$(dirname "$0")/.." && pwd -P)
+. "$root/tests/words.sh"
 room=$(mktemp -d)
 trap 'rm -rf "$room"' EXIT
 cd "$room"
 passed=0 failed=0
 
-words() {
-    local value byte text
-    for value; do
-        text=
-        for byte in 0 8 16 24 32 40 48 56; do text+=$(printf '\\x%02x' $((value >> byte & 255))); done
-        printf '%b' "$text"
-    done
-}
-
-put() { # FILE TABLE ENTRY VALUE
-    words "$4" | dd of="$1" bs=8 seek=$(($2 * 512 + $3)) conv=notrunc status=none
-}
-
-entry() { # FILE TABLE ENTRY
-    od -An -v -t x8 -j $(($2 * 4096 + $3 * 8)) -N 8 "$1" | sed 's/^ *0*\(.\)/\1/'
-}
-
 report() { # NUMBER USED MOVED MERGED REACHED ADDRESS LEVEL OFFSET
     printf 'number %s\nused %s\nmoved %s\nmerged %s\nreached %s\naddress %s\nlevel %s\noffset %s\n' "$@"
+}
+
+refusal() { # NUMBER-AND-SENTENCE [ADDRESS LEVEL OFFSET]
+    report "$1" 0x0 0x0 0x0 0x0 "${2:-0x0}" "${3:-0x0}" "${4:-0x0}"
 }
 
 verdict() { # NAME TRUTH..
@@ -100,6 +88,7 @@ mkdir folder
 region="0x100000 0x8000 0x100000 0x0 0x0"
 usage='usage: relocate IMAGE RANGES OUTPUT GPA SIZE CR3 CR4 OFFSET'
 number='not a hexadecimal number of at most 64 bits'
+bad_ranges='8 the ranges are more than 1024, not words in threes or not ascending, or one is empty, past 2^48 or over the region'
 signed="$number, or one after '-' of at most 2^63"
 
 # shellcheck disable=SC2086
@@ -130,21 +119,21 @@ signed="$number, or one after '-' of at most 2^63"
     wrong "a folder as output" "relocate: OUTPUT: Is a directory" image ranges folder $region
     wrong "no folder for the output" "relocate: OUTPUT: No such file or directory" image ranges nowhere/output $region
 
-    refused "number 1" "$(report '1 the region breaks a rule' 0x0 0x0 0x0 0x0 0x0 0x0 0x0)" \
+    refused "number 1" "$(refusal '1 the region is not whole pages, is empty, has more than 512 tables, ends past 2^48, or uses more than its size')" \
         image ranges output 0x100000 0x8001 0x100000 0x0 0x0
-    refused "number 5" "$(report '5 cr4 asks for five levels' 0x0 0x0 0x0 0x0 0x0 0x0 0x0)" \
+    refused "number 5" "$(refusal '5 cr4 asks for five levels (bit 0x1000)')" \
         image ranges output 0x100000 0x8000 0x100000 0x1000 0x0
-    refused "number 6" "$(report '6 cr3 is not in the region' 0x0 0x0 0x0 0x0 0x0 0x0 0x0)" \
+    refused "number 6" "$(refusal '6 cr3 is not in the region')" \
         image ranges output 0x100000 0x8000 0x108000 0x0 0x0
-    refused "number 7" "$(report '7 the table offset is not a multiple of 4096, or moves the region out of 0 to 2^48' 0x0 0x0 0x0 0x0 0x0 0x0 0x0)" \
+    refused "number 7" "$(refusal '7 the table offset is not a multiple of 4096, or moves the region out of 0 to 2^48')" \
         image ranges output 0x100000 0x8000 0x100000 0x0 -0x101000
-    refused "number 8" "$(report '8 the ranges break a rule' 0x0 0x0 0x0 0x0 0x0 0x0 0x0)" \
+    refused "number 8" "$(refusal "$bad_ranges")" \
         image backward output $region
-    refused "number 9" "$(report '9 a table lies in the free tail' 0x0 0x0 0x0 0x0 0x0 0x4 0x0)" \
+    refused "number 9" "$(refusal '9 a table, or the page of a load, lies in the free tail of the region' 0x0 0x4 0x0)" \
         none ranges output $region
-    refused "number 12" "$(report '12 an offset is not a multiple of the mapped size' 0x0 0x0 0x0 0x0 0x200000 0x1 0x201000)" \
+    refused "number 12" "$(refusal '12 an offset is not a multiple of the size that the entry maps' 0x200000 0x1 0x201000)" \
         image uneven output $region
-    refused "number 19" "$(report '19 no table is free' 0x0 0x0 0x0 0x0 0x40200000 0x2 0x0)" \
+    refused "number 19" "$(refusal '19 the region has no free table left' 0x40200000 0x2 0x0)" \
         image far output 0x100000 0x3000 0x100000 0x0 0x0
 
     accepted "no ranges" "$(report '0 accepted' 0x3000 0x0 0x0 0x3 0x0 0x0 0x0)" 0x3000 image none output $region
@@ -174,7 +163,7 @@ signed="$number, or one after '-' of at most 2^63"
         full ranges output 0x1000000 0x200000 0x1000000 0x0 0x0
     holds "the entry of the last table" 511 2 4000e3
     head -c $((1024 * 24)) /dev/zero >zeros
-    refused "1024 ranges" "$(report '8 the ranges break a rule' 0x0 0x0 0x0 0x0 0x0 0x0 0x0)" image zeros output $region
+    refused "1024 ranges" "$(refusal "$bad_ranges")" image zeros output $region
 }
 
 echo "$passed passed, $failed failed"

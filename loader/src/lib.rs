@@ -131,40 +131,55 @@ impl Error {
     fn plain(number: u64) -> Self {
         Error { number, place: Place::default() }
     }
+}
 
-    /// The refusal in words.
-    pub fn sentence(&self) -> &'static str {
-        match self.number {
-            1 => "the region is not whole pages, is empty, larger than 512 tables or past 2^48, or uses more than its size",
-            2 => "page data length is not 4096",
-            3 => "page data gpa is outside the region or not a multiple of 4096",
-            4 => "the image is not as long as the region's used part, or the output is shorter than the region",
-            5 => "five-level paging is not taken",
-            6 => "cr3 is not within the region",
-            7 => "the table offset is not a multiple of 4096, or moves the region out of 0 to 2^48",
-            8 => "the ranges are too many, not ascending, empty, past 2^48, over the region, or no words in threes",
-            9 => "a table lies in the free tail of the region",
-            10 => "a table is reached twice",
-            11 => "an entry points into the moved region from outside the old one",
-            12 => "an offset is not a multiple of the size that the entry maps",
-            13 => "an entry would move out of 0 to 2^48",
-            14 => "two entries would move to one address",
-            15 => "the scratch holds no more moved entries",
-            16 => "a large page stands in the way of a moved entry",
-            17 => "the way to a moved entry leaves the moved region",
-            18 => "another entry stands where one would move to",
-            19 => "the region has no free table left",
-            Self::NO_MEMORY => "memory for the answer can't be had",
-            _ => "refused",
+/// Each refusal once: its name, its number and its sentence.
+macro_rules! refusals {
+    ($($name:ident = $number:literal, $sentence:literal;)*) => {
+        impl Error {
+            $(#[doc = $sentence]
+            pub const $name: u64 = $number;)*
+
+            /// The refusal in words.
+            pub fn sentence(&self) -> &'static str {
+                match self.number {
+                    $(Self::$name => $sentence,)*
+                    Self::NO_MEMORY => "memory for the answer can't be had",
+                    _ => "refused",
+                }
+            }
         }
-    }
+    };
+}
+
+// The names, numbers and sentences of include/archwend.h.
+refusals! {
+    REGION = 1, "the region is not whole pages, is empty, has more than 512 tables, ends past 2^48, or uses more than its size";
+    PAGE_LENGTH = 2, "the page data is not 4096 bytes long";
+    PAGE_GPA = 3, "the page's address is outside the region, or not a multiple of 4096";
+    LENGTHS = 4, "the image is not as long as the used part, or the output is shorter than the region";
+    FIVE_LEVELS = 5, "cr4 asks for five levels (bit 0x1000)";
+    CR3 = 6, "cr3 is not in the region";
+    TABLE_OFFSET = 7, "the table offset is not a multiple of 4096, or moves the region out of 0 to 2^48";
+    RANGES = 8, "the ranges are more than 1024, not words in threes or not ascending, or one is empty, past 2^48 or over the region";
+    FREE_TAIL = 9, "a table, or the page of a load, lies in the free tail of the region";
+    SHARED_TABLE = 10, "a table is reached twice";
+    INTO_MOVED = 11, "an entry points outside the old region but into the moved one";
+    UNALIGNED_OFFSET = 12, "an offset is not a multiple of the size that the entry maps";
+    OUT_OF_BOUNDS = 13, "a leaf would move out of 0 to 2^48";
+    SAME_ADDRESS = 14, "two leaves would move to one address";
+    SCRATCH_FULL = 15, "the scratch has no room for another moved leaf";
+    LARGE_IN_THE_WAY = 16, "a large leaf stands in the way of a moved leaf";
+    WAY_OUTSIDE = 17, "the way to a moved leaf leaves the moved region";
+    OCCUPIED = 18, "a different entry stands where a moved leaf goes";
+    NO_FREE_TABLE = 19, "the region has no free table left";
 }
 
 impl fmt::Display for Error {
     fn fmt(&self, f: &mut fmt::Formatter<'_>) -> fmt::Result {
         write!(f, "{} (refusal {}", self.sentence(), self.number)?;
         let p = self.place;
-        if p != Place::default() || (9..=19).contains(&self.number) {
+        if p != Place::default() || (Self::FREE_TAIL..=Self::NO_FREE_TABLE).contains(&self.number) {
             write!(f, " at {:#x}, level {}", p.address, p.level)?;
         }
         if p.offset != 0 {

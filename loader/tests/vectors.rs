@@ -4,6 +4,17 @@
 use archwend::*;
 use std::collections::BTreeMap;
 
+// What a line is, as crates/vectors names it.
+const REGION_LINE: u64 = 1;
+const IMAGE_LINE: u64 = 2;
+const RANGE_LINE: u64 = 3;
+const CPU_LINE: u64 = 4;
+const BUILD_LINE: u64 = 5;
+const OUTPUT_LINE: u64 = 6;
+const BLANK_LINE: u64 = 7;
+const LOAD_LINE: u64 = 8;
+const PLACE_LINE: u64 = 14;
+
 /// The words of the tables that are not 0.
 fn words(bytes: &[u8]) -> BTreeMap<u64, u64> {
     let word = |c: &[u8]| c.iter().rev().fold(0, |w, b| w << 8 | *b as u64);
@@ -22,7 +33,7 @@ fn the_recorded_answers() {
         let mut w: Vec<u64> = line.split(' ').map(|x| u64::from_str_radix(x, 16).expect("hexadecimal")).collect();
         w.resize(4, 0);
         match w[0] {
-            1 => {
+            REGION_LINE => {
                 region = (w[1], w[2], w[3]);
                 entries.clear();
                 ranges.clear();
@@ -30,17 +41,17 @@ fn the_recorded_answers() {
                 loads.clear();
                 place = None;
             }
-            2 => drop(entries.insert(w[1], w[2])),
-            3 => ranges.push((w[1]..=w[2], w[3] as i64)),
-            4 => {
+            IMAGE_LINE => drop(entries.insert(w[1], w[2])),
+            RANGE_LINE => ranges.push((w[1]..=w[2], w[3] as i64)),
+            CPU_LINE => {
                 cpu = CpuPagingState { cr3: w[1], cr4: w[2] };
                 offset = w[3] as i64;
             }
-            5 => answer = [w[1], w[2], w[3]],
-            6 => drop(wanted.insert(w[1], w[2])),
-            8 => loads.push((w[1], w[2] as usize, w[3])),
-            14 => place = Some((w[1], w[2], w[3] as i64)),
-            7 => {
+            BUILD_LINE => answer = [w[1], w[2], w[3]],
+            OUTPUT_LINE => drop(wanted.insert(w[1], w[2])),
+            LOAD_LINE => loads.push((w[1], w[2] as usize, w[3])),
+            PLACE_LINE => place = Some((w[1], w[2], w[3] as i64)),
+            BLANK_LINE => {
                 let mut b = PageTableRelocationBuilder::new(region.0, region.1, region.2).unwrap();
                 for page in 0..region.2 / 4096 {
                     let data: Vec<u8> = (0..512).flat_map(|i| entries.get(&(512 * page + i)).unwrap_or(&0).to_le_bytes()).collect();

@@ -11,11 +11,18 @@ const USED: usize = 0x3000;
 
 const MOST: usize = 0x8000;
 
-// What an example changes of the base: the size of the region, and one entry of the image.
+// The first words of the base's second and third table.
+const TABLE_1: usize = 512;
+
+const TABLE_2: usize = 1024;
+
+// The word of the base's one leaf.
+const MAPPED: usize = TABLE_2 + 1;
+
+// What an example changes of the base: the size of the region, and one word of the image.
 struct Variant {
     size: u64,
-    table: usize,
-    entry: usize,
+    slot: usize,
     word: u64,
 }
 
@@ -28,30 +35,10 @@ fn number(label: &[u8], x: u64) {
     io::print_hex(STDOUT_FILENO, x, 1);
 }
 
-// Puts an entry into the image.
-fn put(image: &mut [u8], table: usize, entry: usize, word: u64) {
-    if table < 3 {
-        if entry < 512 {
-            let k = 512 * table + entry;
-            if k < image.len() / 8 {
-                words::write_word(image, k, word);
-            }
-        }
-    }
-}
-
-// The word k, or 0 past the end.
-fn word_at(bytes: &[u8], k: usize) -> u64 {
-    if k < bytes.len() / 8 {
-        return words::read_word(bytes, k);
-    }
-    0
-}
-
 // The word k, as table.entry value, if the build changed it.
 fn change(image: &[u8], out: &[u8], k: usize) {
-    let new = word_at(out, k);
-    if word_at(image, k) != new {
+    let new = tables::word_at(out, k);
+    if tables::word_at(image, k) != new {
         number(b" | ", (k / 512) as u64);
         text(b".");
         io::print_decimal(STDOUT_FILENO, (k % 512) as u64);
@@ -81,18 +68,6 @@ fn print(r: Report) {
     number(b" offset ", place.offset);
 }
 
-// Whether every byte is 0.
-fn blank(bytes: &[u8]) -> bool {
-    let mut i: usize = 0;
-    while i < bytes.len() {
-        if bytes[i] != 0 {
-            return false;
-        }
-        i += 1;
-    }
-    true
-}
-
 // Whether every word is 0.
 fn empty(words: &[u64]) -> bool {
     let mut i: usize = 0;
@@ -109,7 +84,7 @@ fn empty(words: &[u64]) -> bool {
 fn left(number: u64, image: &[u8], out: &[u8], scratch: &[u64]) {
     if number == 0 {
         changes(image, out);
-    } else if !blank(out) {
+    } else if !tables::blank(out) {
         text(b" output not zero");
     }
     if !empty(scratch) {
@@ -124,10 +99,10 @@ fn run(offset: u64, c: Variant) {
     let mut out = [0xa5u8; MOST];
     let mut scratch = [7u64; 4];
     let ranges = [0x20_0000u64, 0x3f_ffff, offset];
-    put(&mut image, 0, 0, 0x10_1023);
-    put(&mut image, 1, 0, 0x10_2023);
-    put(&mut image, 2, 1, 0x20_00e3);
-    put(&mut image, c.table, c.entry, c.word);
+    tables::put(&mut image, 0, 0x10_1023);
+    tables::put(&mut image, TABLE_1, 0x10_2023);
+    tables::put(&mut image, MAPPED, 0x20_00e3);
+    tables::put(&mut image, c.slot, c.word);
     let r = Region {
         gpa: GPA,
         size: c.size,
@@ -146,22 +121,20 @@ fn plain(label: &[u8], offset: u64) {
         offset,
         Variant {
             size: 0x8000,
-            table: 2,
-            entry: 1,
+            slot: MAPPED,
             word: 0x20_00e3,
         },
     );
 }
 
 // The base with offset 0x200000 and one entry more.
-fn with_entry(label: &[u8], table: usize, entry: usize, word: u64) {
+fn with_entry(label: &[u8], slot: usize, word: u64) {
     text(label);
     run(
         0x20_0000,
         Variant {
             size: 0x8000,
-            table: table,
-            entry: entry,
+            slot: slot,
             word: word,
         },
     );
@@ -186,18 +159,17 @@ fn main() {
         0x4000_0000,
         Variant {
             size: 0x3000,
-            table: 2,
-            entry: 1,
+            slot: MAPPED,
             word: 0x20_00e3,
         },
     );
     plain(b"offset -200000:", 0xffff_ffff_ffe0_0000);
     plain(b"offset -400000:", 0xffff_ffff_ffc0_0000);
-    with_entry(b"offset 200000, 2.2 = 4000e3:", 2, 2, 0x40_00e3);
-    with_entry(b"offset 200000, 2.2 = 4000e1:", 2, 2, 0x40_00e1);
-    with_entry(b"offset 200000, 0.511 = 100023:", 0, 511, 0x10_0023);
-    with_entry(b"offset 200000, 2.0 = 103023:", 2, 0, 0x10_3023);
-    with_entry(b"offset 200000, 2.0 = 108023:", 2, 0, 0x10_8023);
+    with_entry(b"offset 200000, 2.2 = 4000e3:", TABLE_2 + 2, 0x40_00e3);
+    with_entry(b"offset 200000, 2.2 = 4000e1:", TABLE_2 + 2, 0x40_00e1);
+    with_entry(b"offset 200000, 0.511 = 100023:", 511, 0x10_0023);
+    with_entry(b"offset 200000, 2.0 = 103023:", TABLE_2, 0x10_3023);
+    with_entry(b"offset 200000, 2.0 = 108023:", TABLE_2, 0x10_8023);
     plain(b"offset ffffffc00000:", 0xffff_ffc0_0000);
     plain(b"offset ffffffe00000:", 0xffff_ffe0_0000);
     indices();

@@ -2,6 +2,7 @@
 use build::CpuPagingState;
 use definitions::Region;
 use definitions::Report;
+use definitions::refusals;
 use libc::STDERR_FILENO;
 use libc::STDOUT_FILENO;
 use text::Number;
@@ -15,6 +16,7 @@ const WORDS_MAX: usize = 3072;
 
 const ROOM: usize = 393216;
 
+// The numbers of the command line.
 struct Asked {
     gpa: u64,
     size: u64,
@@ -23,6 +25,7 @@ struct Asked {
     offset: u64,
 }
 
+// The command line's numbers, or one of them is none.
 enum Given {
     All(Asked),
     Refused,
@@ -48,6 +51,7 @@ fn front(s: &[u8], n: usize) -> &[u8] {
     if n <= s.len() { &s[0..n] } else { s }
 }
 
+// The same of words.
 fn front_words(s: &[u64], n: usize) -> &[u64] {
     if n <= s.len() { &s[0..n] } else { s }
 }
@@ -154,14 +158,11 @@ fn load(at: usize, what: &[u8], limit: &[u8], buf: &mut [u8]) -> Loaded {
     loaded
 }
 
-// The records as words.
+// The records as words, and zeros past their end.
 fn decode(records: &[u8], words: &mut [u64]) {
     let mut i: usize = 0;
     while i < words.len() {
-        if records.len() / 8 <= i {
-            return;
-        }
-        words[i] = words::read_word(records, i);
+        words[i] = tables::word_at(records, i);
         i += 1;
     }
 }
@@ -214,39 +215,53 @@ fn put(text: &[u8]) -> bool {
     io::write_all(STDOUT_FILENO, text)
 }
 
-// The numbers that come before the passes.
-fn put_early(number: u64) -> bool {
+// Acceptance, or why the inputs are refused.
+fn put_checks(number: u64) -> bool {
     match number {
-        0 => put(b" accepted\n"),
-        1 => put(b" the region breaks a rule\n"),
-        2 => put(b" a page is not 4096 bytes\n"),
-        3 => put(b" a page's address is not one of the region\n"),
-        4 => put(b" the image is not as long as used, or the output is shorter than size\n"),
-        5 => put(b" cr4 asks for five levels\n"),
-        6 => put(b" cr3 is not in the region\n"),
-        7 => put(
-            b" the table offset is not a multiple of 4096, or moves the region out of 0 to 2^48\n",
+        0 => put(b"accepted"),
+        refusals::REGION => put(
+            b"the region is not whole pages, is empty, has more than 512 tables, ends past 2^48, or uses more than its size",
         ),
-        8 => put(b" the ranges break a rule\n"),
-        9 => put(b" a table lies in the free tail\n"),
-        _ => put(b" unknown\n"),
+        refusals::PAGE_LENGTH => put(b"the page data is not 4096 bytes long"),
+        refusals::PAGE_GPA => put(
+            b"the page's address is outside the region, or not a multiple of 4096",
+        ),
+        refusals::LENGTHS => put(
+            b"the image is not as long as the used part, or the output is shorter than the region",
+        ),
+        refusals::FIVE_LEVELS => put(b"cr4 asks for five levels (bit 0x1000)"),
+        refusals::CR3 => put(b"cr3 is not in the region"),
+        refusals::TABLE_OFFSET => put(
+            b"the table offset is not a multiple of 4096, or moves the region out of 0 to 2^48",
+        ),
+        refusals::RANGES => put(
+            b"the ranges are more than 1024, not words in threes or not ascending, or one is empty, past 2^48 or over the region",
+        ),
+        refusals::FREE_TAIL => put(
+            b"a table, or the page of a load, lies in the free tail of the region",
+        ),
+        _ => put(b"unknown"),
     }
 }
 
-fn put_name(number: u64) -> bool {
+// The report's number in words: why a pass refused, or what came before the passes.
+fn put_sentence(number: u64) -> bool {
     match number {
-        10 => put(b" a table is reached twice\n"),
-        11 => put(b" a pointer leads into the moved region\n"),
-        12 => put(b" an offset is not a multiple of the mapped size\n"),
-        13 => put(b" a new address is not within 0 to 2^48\n"),
-        14 => put(b" two moved leaves have one new address\n"),
-        15 => put(b" more leaves move than the scratch holds\n"),
-        16 => put(b" a large leaf stands in the way of a moved leaf\n"),
-        17 => put(b" a pointer on the way of a moved leaf leads out of the moved region\n"),
-        18 => put(b" a different entry stands where a moved leaf goes\n"),
-        19 => put(b" no table is free\n"),
-        20 => put(b" an entry's address or level is not allowed\n"),
-        _ => put_early(number),
+        refusals::SHARED_TABLE => put(b"a table is reached twice"),
+        refusals::INTO_MOVED => put(
+            b"an entry points outside the old region but into the moved one",
+        ),
+        refusals::UNALIGNED_OFFSET => put(
+            b"an offset is not a multiple of the size that the entry maps",
+        ),
+        refusals::OUT_OF_BOUNDS => put(b"a leaf would move out of 0 to 2^48"),
+        refusals::SAME_ADDRESS => put(b"two leaves would move to one address"),
+        refusals::SCRATCH_FULL => put(b"the scratch has no room for another moved leaf"),
+        refusals::LARGE_IN_THE_WAY => put(b"a large leaf stands in the way of a moved leaf"),
+        refusals::WAY_OUTSIDE => put(b"the way to a moved leaf leaves the moved region"),
+        refusals::OCCUPIED => put(b"a different entry stands where a moved leaf goes"),
+        refusals::NO_FREE_TABLE => put(b"the region has no free table left"),
+        _ => put_checks(number),
     }
 }
 
@@ -260,7 +275,9 @@ fn print_report(report: Report) -> bool {
     let place = report.place;
     put(b"number ");
     io::print_decimal(STDOUT_FILENO, report.number);
-    put_name(report.number);
+    put(b" ");
+    put_sentence(report.number);
+    put(b"\n");
     line(b"used 0x", report.used);
     line(b"moved 0x", report.moved);
     line(b"merged 0x", report.merged);

@@ -10,6 +10,42 @@ const IMAGE: usize = 0x8000;
 
 const OUTPUT: usize = 0x20000;
 
+// What a line is, by its first word; data/README has the other words.
+const REGION_LINE: u64 = 1;
+
+const IMAGE_LINE: u64 = 2;
+
+const RANGE_LINE: u64 = 3;
+
+const CPU_LINE: u64 = 4;
+
+const BUILD_LINE: u64 = 5;
+
+const OUTPUT_LINE: u64 = 6;
+
+const BLANK_LINE: u64 = 7;
+
+const LOAD_LINE: u64 = 8;
+
+const FRESH_LINE: u64 = 9;
+
+const SET_LINE: u64 = 10;
+
+const INDEX_LINE: u64 = 11;
+
+const READ_LINE: u64 = 12;
+
+const MASK_LINE: u64 = 13;
+
+const PLACE_LINE: u64 = 14;
+
+// What a fresh entry is, by its line's second word; any other points to a table.
+const FRESH_4K: u64 = 0;
+
+const FRESH_2M: u64 = 1;
+
+const FRESH_1G: u64 = 2;
+
 // Where the registers are: 0 to 3 the line's words, 4 the word being read.
 const AT: usize = 4;
 
@@ -37,45 +73,21 @@ const LEVEL: usize = 15;
 
 const OFFSET: usize = 16;
 
+const REGISTERS: usize = 17;
+
 fn wide(x: u8) -> u64 {
     x as u64
 }
 
-// The word k, or 0 past the end.
-fn word_at(bytes: &[u8], k: usize) -> u64 {
-    if k < bytes.len() / 8 {
-        return words::read_word(bytes, k);
-    }
-    0
-}
-
-fn put(bytes: &mut [u8], k: usize, word: u64) {
-    if k < bytes.len() / 8 {
-        words::write_word(bytes, k, word);
-    }
-}
-
-// Whether every byte is 0.
-fn blank(bytes: &[u8]) -> bool {
-    let mut i: usize = 0;
-    while i < bytes.len() {
-        if bytes[i] != 0 {
-            return false;
-        }
-        i += 1;
-    }
-    true
-}
-
 // Counts one answer more, and whether it differs.
-fn count(same: bool, v: &mut [u64; 20]) {
+fn count(same: bool, v: &mut [u64; REGISTERS]) {
     v[ANSWERS] = std::num::wrapping_add_u64(v[ANSWERS], 1);
     if !same {
         v[DIFFERENT] = std::num::wrapping_add_u64(v[DIFFERENT], 1);
     }
 }
 
-fn region(v: &[u64; 20]) -> Region {
+fn region(v: &[u64; REGISTERS]) -> Region {
     Region {
         gpa: v[GPA],
         size: v[SIZE],
@@ -89,7 +101,7 @@ fn set(list: &mut [u64], i: usize, x: u64) {
     }
 }
 
-fn add_range(ranges: &mut [u64], v: &mut [u64; 20]) {
+fn add_range(ranges: &mut [u64], v: &mut [u64; REGISTERS]) {
     let n = v[RANGE_WORDS] as usize;
     if n <= 60 {
         set(ranges, n, v[1]);
@@ -100,7 +112,7 @@ fn add_range(ranges: &mut [u64], v: &mut [u64; 20]) {
 }
 
 // A load of v[2] bytes at v[1], which is to answer v[3].
-fn load(image: &mut [u8], v: &mut [u64; 20]) {
+fn load(image: &mut [u8], v: &mut [u64; REGISTERS]) {
     let page = [0x5au8; 8192];
     let n = v[2] as usize;
     let used = v[USED] as usize;
@@ -116,7 +128,13 @@ fn load(image: &mut [u8], v: &mut [u64; 20]) {
 }
 
 // The build, which is to answer v[1], with v[2] bytes of tables and v[3] leaves merged.
-fn run(image: &[u8], output: &mut [u8], scratch: &mut [u64], ranges: &[u64], v: &mut [u64; 20]) {
+fn run(
+    image: &[u8],
+    output: &mut [u8],
+    scratch: &mut [u64],
+    ranges: &[u64],
+    v: &mut [u64; REGISTERS],
+) {
     let used = v[USED] as usize;
     let n = v[RANGE_WORDS] as usize;
     let r = region(v);
@@ -156,22 +174,18 @@ fn good(answer: levels::Answer, wanted: u64) -> bool {
 }
 
 // A fresh entry of kind v[1] for the address v[2].
-fn fresh(v: &[u64; 20]) -> levels::Answer {
+fn fresh(v: &[u64; REGISTERS]) -> levels::Answer {
     let old = PageTableEntry { entry: 0 };
-    if v[1] == 0 {
-        return old.set_entry(PageTableEntryType::Leaf4kPage(v[2]));
+    match v[1] {
+        FRESH_4K => old.set_entry(PageTableEntryType::Leaf4kPage(v[2])),
+        FRESH_2M => old.set_entry(PageTableEntryType::Leaf2MbPage(v[2])),
+        FRESH_1G => old.set_entry(PageTableEntryType::Leaf1GbPage(v[2])),
+        _ => old.set_entry(PageTableEntryType::Pde(v[2])),
     }
-    if v[1] == 1 {
-        return old.set_entry(PageTableEntryType::Leaf2MbPage(v[2]));
-    }
-    if v[1] == 2 {
-        return old.set_entry(PageTableEntryType::Leaf1GbPage(v[2]));
-    }
-    old.set_entry(PageTableEntryType::Pde(v[2]))
 }
 
 // Whether reading the address of v[1] gives v[3] where v[2] is 1, and nothing where it is 0.
-fn read_same(v: &[u64; 20]) -> bool {
+fn read_same(v: &[u64; REGISTERS]) -> bool {
     let e = PageTableEntry { entry: v[1] };
     let g = e.gpa();
     match g {
@@ -181,41 +195,68 @@ fn read_same(v: &[u64; 20]) -> bool {
 }
 
 // Whether the mask v[1] has the single bit v[3] at place v[2], 0 past its last.
-fn mask_same(v: &[u64; 20]) -> bool {
+fn mask_same(v: &[u64; REGISTERS]) -> bool {
     let s = masks::extract_individual_masks((v[1] % 0x1_0000_0000) as u32);
     let bits = s.bits;
     let i = (v[2] % 32) as usize;
     bits[i] as u64 == v[3]
 }
 
-fn entry_line(v: &mut [u64; 20]) {
-    if v[0] == 9 {
-        let a = fresh(v);
-        count(good(a, v[3]), v);
-    } else if v[0] == 10 {
-        let e = PageTableEntry { entry: v[1] };
-        let a = e.set_addr(v[2]);
-        count(good(a, v[3]), v);
-    } else if v[0] == 11 {
-        let a = levels::get_amd64_pte_index(v[1], v[2]);
-        count(good(a, v[3]), v);
-    } else if v[0] == 12 {
-        let same = read_same(v);
-        count(same, v);
-    } else if v[0] == 13 {
-        let same = mask_same(v);
-        count(same, v);
-    } else {
-        count(false, v);
+fn entry_line(v: &mut [u64; REGISTERS]) {
+    match v[0] {
+        FRESH_LINE => {
+            let a = fresh(v);
+            count(good(a, v[3]), v);
+        }
+        SET_LINE => {
+            let e = PageTableEntry { entry: v[1] };
+            let a = e.set_addr(v[2]);
+            count(good(a, v[3]), v);
+        }
+        INDEX_LINE => {
+            let a = levels::get_amd64_pte_index(v[1], v[2]);
+            count(good(a, v[3]), v);
+        }
+        READ_LINE => {
+            let same = read_same(v);
+            count(same, v);
+        }
+        MASK_LINE => {
+            let same = mask_same(v);
+            count(same, v);
+        }
+        _ => count(false, v),
     }
 }
 
 // The place of a 12: address, mapped size, offset.
-fn place_line(v: &mut [u64; 20]) {
+fn place_line(v: &mut [u64; REGISTERS]) {
     count(v[PLACE] == v[1], v);
     let a = levels::mapping_size(v[LEVEL]);
     count(good(a, v[2]), v);
     count(v[OFFSET] == v[3], v);
+}
+
+// An entry of the output. Each word found is taken out, so that nothing may be left at the end.
+fn output_line(output: &mut [u8], v: &mut [u64; REGISTERS]) {
+    let k = v[1] as usize;
+    let same = tables::word_at(output, k) == v[2];
+    count(same, v);
+    tables::put(output, k, 0);
+}
+
+fn region_line(image: &mut [u8], v: &mut [u64; REGISTERS]) {
+    words::clear(image, 0);
+    v[GPA] = v[1];
+    v[SIZE] = v[2];
+    v[USED] = v[3];
+    v[RANGE_WORDS] = 0;
+}
+
+fn cpu_line(v: &mut [u64; REGISTERS]) {
+    v[CR3] = v[1];
+    v[CR4] = v[2];
+    v[TABLE_OFFSET] = v[3];
 }
 
 fn line(
@@ -223,39 +264,22 @@ fn line(
     output: &mut [u8],
     scratch: &mut [u64],
     ranges: &mut [u64],
-    v: &mut [u64; 20],
+    v: &mut [u64; REGISTERS],
 ) {
-    if v[0] == 1 {
-        words::clear(image, 0);
-        v[GPA] = v[1];
-        v[SIZE] = v[2];
-        v[USED] = v[3];
-        v[RANGE_WORDS] = 0;
-    } else if v[0] == 2 {
-        put(image, v[1] as usize, v[2]);
-    } else if v[0] == 3 {
-        add_range(ranges, v);
-    } else if v[0] == 4 {
-        v[CR3] = v[1];
-        v[CR4] = v[2];
-        v[TABLE_OFFSET] = v[3];
-    } else if v[0] == 5 {
-        run(image, output, scratch, ranges, v);
-    } else if v[0] == 6 {
-        // Each word found is taken out, so that nothing may be left at the end.
-        let k = v[1] as usize;
-        let same = word_at(output, k) == v[2];
-        count(same, v);
-        put(output, k, 0);
-    } else if v[0] == 7 {
-        let same = blank(output);
-        count(same, v);
-    } else if v[0] == 8 {
-        load(image, v);
-    } else if v[0] == 14 {
-        place_line(v);
-    } else {
-        entry_line(v);
+    match v[0] {
+        REGION_LINE => region_line(image, v),
+        IMAGE_LINE => tables::put(image, v[1] as usize, v[2]),
+        RANGE_LINE => add_range(ranges, v),
+        CPU_LINE => cpu_line(v),
+        BUILD_LINE => run(image, output, scratch, ranges, v),
+        OUTPUT_LINE => output_line(output, v),
+        BLANK_LINE => {
+            let same = tables::blank(output);
+            count(same, v);
+        }
+        LOAD_LINE => load(image, v),
+        PLACE_LINE => place_line(v),
+        _ => entry_line(v),
     }
 }
 
@@ -267,7 +291,7 @@ fn digit(c: u8) -> u64 {
     x % 16 + 9
 }
 
-fn add_digit(c: u8, v: &mut [u64; 20]) {
+fn add_digit(c: u8, v: &mut [u64; REGISTERS]) {
     let i = (v[AT] % 4) as usize;
     v[i] = v[i] % 0x1000_0000_0000_0000 * 16 + digit(c) % 16;
 }
@@ -279,7 +303,7 @@ fn feed(
     output: &mut [u8],
     scratch: &mut [u64],
     ranges: &mut [u64],
-    v: &mut [u64; 20],
+    v: &mut [u64; REGISTERS],
 ) {
     if c == b' ' {
         v[AT] = v[AT] % 4 + 1;
@@ -301,7 +325,7 @@ fn feed_all(
     output: &mut [u8],
     scratch: &mut [u64],
     ranges: &mut [u64],
-    v: &mut [u64; 20],
+    v: &mut [u64; REGISTERS],
 ) {
     let mut i: usize = 0;
     while i < text.len() {
@@ -317,7 +341,7 @@ fn some(
     output: &mut [u8],
     scratch: &mut [u64],
     ranges: &mut [u64],
-    v: &mut [u64; 20],
+    v: &mut [u64; REGISTERS],
 ) -> bool {
     let mut text = io::buffer();
     let n = io::read_full(fd, &mut text);
@@ -326,7 +350,7 @@ fn some(
 }
 
 // No file is longer than these turns.
-fn all(fd: i32, v: &mut [u64; 20]) {
+fn all(fd: i32, v: &mut [u64; REGISTERS]) {
     let mut image = [0u8; IMAGE];
     let mut output = [0xa5u8; OUTPUT];
     let mut scratch = [7u64; 3000];
@@ -338,7 +362,7 @@ fn all(fd: i32, v: &mut [u64; 20]) {
 }
 
 fn main() {
-    let mut v = [0u64; 20];
+    let mut v = [0u64; REGISTERS];
     let fd = os::open_read(b"vectors");
     if fd < 0 {
         os::fail(b"vectors");

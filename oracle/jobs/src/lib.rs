@@ -28,6 +28,8 @@ pub struct Job {
     pub cr3: u64,
     pub cr4: u64,
     pub table_offset: i64,
+    /// Whether the proved code gets a scratch of no words; the original has none.
+    pub no_scratch: bool,
 }
 
 /// What a load answered: its number, or the panic's message.
@@ -129,7 +131,7 @@ fn sparse(bytes: &[u8]) -> String {
     s
 }
 
-/// The text form: hexadecimal, one line a step, offsets as words; `build` ends a job.
+/// The text form: hexadecimal, one line a step, offsets as words; `no scratch` where there is none; `build` ends a job.
 pub fn print(job: &Job) -> String {
     let mut s = format!("region {:x} {:x} {:x}\n", job.gpa, job.size, job.used);
     for l in &job.loads {
@@ -138,13 +140,15 @@ pub fn print(job: &Job) -> String {
     for (first, last, offset) in &job.ranges {
         writeln!(s, "range {first:x} {last:x} {:x}", *offset as u64).unwrap();
     }
+    if job.no_scratch {
+        s += "no scratch\n";
+    }
     writeln!(s, "build {:x} {:x} {:x}", job.cr3, job.cr4, job.table_offset as u64).unwrap();
     s
 }
 
-/// Reads jobs in the text form; a line that starts with # is skipped.
-pub fn parse(text: &str) -> Result<Vec<Job>, String> {
-    let mut jobs = Vec::new();
+/// Reads a job in the text form; a line that starts with # is skipped.
+pub fn parse(text: &str) -> Result<Job, String> {
     let mut job = Job::default();
     for (n, line) in text.lines().enumerate() {
         let bad = |what: &str| format!("line {}: {what}", n + 1);
@@ -174,16 +178,17 @@ pub fn parse(text: &str) -> Result<Vec<Job>, String> {
                 job.loads.push(Load { gpa, data });
             }
             Some("range") => job.ranges.push((hex(w.next())?, hex(w.next())?, hex(w.next())? as i64)),
+            Some("no") if w.next() == Some("scratch") => job.no_scratch = true,
             Some("build") => {
                 job.cr3 = hex(w.next())?;
                 job.cr4 = hex(w.next())?;
                 job.table_offset = hex(w.next())? as i64;
-                jobs.push(std::mem::take(&mut job));
+                return Ok(job);
             }
-            Some(_) => return Err(bad("region, load, range or build expected")),
+            Some(_) => return Err(bad("region, load, range, no scratch or build expected")),
         }
     }
-    Ok(jobs)
+    Err("no build".into())
 }
 
 /// The answers in text: a line for each load, then one for the build.

@@ -19,6 +19,5 @@ include!(concat!(env!("OUT_DIR"), "/module.rs"));
 pub use range_map_vec::RangeMap;
 pub use tracing::take_warnings;
 
-/// The checksums (SHA-256) of what was compiled.
+/// The checksum (SHA-256) of the page_table.rs that was compiled.
 pub const PAGE_TABLE: &str = env!("ORIGINAL_PAGE_TABLE");
-pub const LIB: &str = env!("ORIGINAL_LIB");

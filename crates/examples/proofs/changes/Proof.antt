@@ -1,3 +1,6 @@
+-- `changes` prints each word in turn that the build changed. It promises nothing; what is proved is that it ends and stays in bounds.
+-- Invariant: the place is not past the last word. Measure: the words left.
+-- Assumes nothing.
 use Prim.Native.Nat.{_≤_, _-_}
 use borrow.Author.Needs.{needs}
 use Rattle.examples.proofs.changes.Statement.{statement}

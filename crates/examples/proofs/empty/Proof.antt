@@ -1,3 +1,6 @@
+-- `empty` looks at each word in turn. It promises nothing; what is proved is that it ends and stays in bounds.
+-- Invariant: the place is not past the end. Measure: the words left.
+-- Assumes nothing.
 use lib.ListN.{length}
 use Prim.Native.Nat.{_≤_, _-_}
 use borrow.Author.Needs.{needs}

@@ -1,3 +1,6 @@
+-- `read_to_end` reads until the buffer is full, the file ends or a read fails. What is proved is that it ends and stays in bounds.
+-- Invariant: what is read fits the buffer, which is as long as at entry. Measure: the room left; a read of nothing ends the loop.
+-- Assumes nothing.
 use Prim.Native.Nat.{_≤_, _-_}
 use borrow.Author.Needs.{needs}
 use mathlib.Core.Path.{_≡_}

@@ -1,11 +1,11 @@
+-- `all` feeds one part of the file after the other. It promises nothing; what is proved is that it ends and stays in bounds.
+-- Invariant: the buffers are as long as they were made. Measure: the turns left.
+-- Assumes nothing.
 use lib.ListN.{length}
 use mathlib.Core.Path.{_≡_}
 use borrow.Author.Needs.{needs}
 use Rattle.vectors.proofs.all.Statement.{statement}
 use Rattle.vectors.proofs.all.Tie as tie
-use Rattle.vectors.proofs.all.Reads as reads
-use Rattle.vectors.proofs.all.Lts as lts
-use Rattle.vectors.proofs.some.Reads as some-reads
 
 abbrev Inv-loop : tie.InvT-loop
 Inv-loop fd v₀ image₀ output₀ scratch₀ ranges₀ turns₀ v image output scratch ranges turns =
@@ -14,47 +14,36 @@ Inv-loop fd v₀ image₀ output₀ scratch₀ ranges₀ turns₀ v image output
 abbrev μ-loop : tie.MeasureT-loop
 μ-loop fd v₀ image₀ output₀ scratch₀ ranges₀ turns₀ v image output scratch ranges turns = turns
 
--- src/main.rt:300:5
 loop-holds : tie.Need-loop-holds Inv-loop μ-loop
 loop-holds c = search needs
 
--- src/main.rt:300:33
 slice-aggregate-some : tie.Need-slice-aggregate-some Inv-loop μ-loop
 slice-aggregate-some c = search needs
 
--- src/main.rt:300:45
 slice-aggregate-some-2 : tie.Need-slice-aggregate-some-2 Inv-loop μ-loop
 slice-aggregate-some-2 c = search needs
 
--- src/main.rt:300:58
 slice-aggregate-some-3 : tie.Need-slice-aggregate-some-3 Inv-loop μ-loop
 slice-aggregate-some-3 c = search needs
 
--- src/main.rt:300:72
 slice-aggregate-some-4 : tie.Need-slice-aggregate-some-4 Inv-loop μ-loop
 slice-aggregate-some-4 c = search needs
 
--- src/main.rt:300:24
 some-requires : tie.Need-some-requires Inv-loop μ-loop
 some-requires c κs = search needs
 
--- src/main.rt:301:9
 sub-turns : tie.Need-sub-turns Inv-loop μ-loop
 sub-turns c = search needs
 
--- src/main.rt:300:5
 loop-less : tie.Need-loop-less Inv-loop μ-loop
 loop-less c = search needs
 
--- src/main.rt:300:5
 loop-again : tie.Need-loop-again Inv-loop μ-loop
 loop-again c = search needs
 
--- src/main.rt:294:1
 returns : tie.Need-returns Inv-loop μ-loop
 returns c = search needs
 
--- src/main.rt:294:1
 returns-2 : tie.Need-returns-2 Inv-loop μ-loop
 returns-2 c = search needs
 

@@ -1,61 +1,54 @@
+-- `feed_all` feeds one byte after the other. What is proved is that it ends, stays in bounds and keeps the buffers' lengths.
+-- Invariant: the place is not past the end, and the buffers are as long as at entry. Measure: the bytes left.
+-- Assumes nothing.
 use lib.ListN.{length}
 use mathlib.Core.Path.{_≡_}
 use Prim.Native.Nat.{_≤_, _-_}
 use borrow.Author.Needs.{needs}
 use Rattle.vectors.proofs.feed_all.Statement.{statement}
 use Rattle.vectors.proofs.feed_all.Tie as tie
-use Rattle.vectors.proofs.feed_all.Reads as reads
-use Rattle.vectors.proofs.feed_all.Lts as lts
-use Rattle.vectors.proofs.feed.Reads as feed-reads
 
 abbrev Inv-loop : tie.InvT-loop
 Inv-loop text image₀ output₀ scratch₀ ranges₀ v₀ i₀ image output scratch ranges v i =
-    (i ≤ length text) × (length image ≡ length image₀) × (length output ≡ length output₀) × (length scratch ≡ length scratch₀) × (length ranges ≡ length ranges₀)
+    (i ≤ length text) ×
+    (length image ≡ length image₀) ×
+    (length output ≡ length output₀) ×
+    (length scratch ≡ length scratch₀) ×
+    (length ranges ≡ length ranges₀)
 
 abbrev μ-loop : tie.MeasureT-loop
 μ-loop text image₀ output₀ scratch₀ ranges₀ v₀ i₀ image output scratch ranges v i = length text - i
 
--- src/main.rt:275:5
 loop-holds : tie.Need-loop-holds Inv-loop μ-loop
 loop-holds c = search needs
 
--- src/main.rt:276:14
 shared-slice-read-feed : tie.Need-shared-slice-read-feed Inv-loop μ-loop
 shared-slice-read-feed c = search needs
 
--- src/main.rt:276:9
 feed-requires : tie.Need-feed-requires Inv-loop μ-loop
 feed-requires c κs = search needs
 
--- src/main.rt:277:9
 add-i : tie.Need-add-i Inv-loop μ-loop
 add-i c = search needs
 
--- src/main.rt:275:5
 loop-less : tie.Need-loop-less Inv-loop μ-loop
 loop-less c = search needs
 
--- src/main.rt:275:5
 loop-again : tie.Need-loop-again Inv-loop μ-loop
 loop-again c = search needs
 
--- src/main.rt:273:1
 same-length : tie.Need-same-length Inv-loop μ-loop
 same-length c = search needs
 
--- src/main.rt:273:1
 same-length-2 : tie.Need-same-length-2 Inv-loop μ-loop
 same-length-2 c = search needs
 
--- src/main.rt:273:1
 same-length-3 : tie.Need-same-length-3 Inv-loop μ-loop
 same-length-3 c = search needs
 
--- src/main.rt:273:1
 same-length-4 : tie.Need-same-length-4 Inv-loop μ-loop
 same-length-4 c = search needs
 
--- src/main.rt:273:1
 returns : tie.Need-returns Inv-loop μ-loop
 returns c = search needs
 

@@ -21,7 +21,7 @@ fn line(a: &Answer) -> String {
 }
 
 fn our_line(job: &jobs::Job) -> String {
-    let o = ours(job, if job.cr4 == 0xf00 { 0 } else { 1000 });
+    let o = ours(job, if job.no_scratch { 0 } else { 1000 });
     let loads = o.loads.iter().map(|n| Ok(*n)).collect();
     let tail = match &o.built {
         Ok((r, bytes)) => return line(&Answer { loads, built: Built::Tables { bytes: bytes.clone(), merged: r.merged } }),
@@ -48,7 +48,7 @@ fn main() {
                 _ => input += &format!("{l}\n"),
             }
         }
-        let job = parse(&input).expect("a job").remove(0);
+        let job = parse(&input).expect("a job");
         cases += 1;
         let mut got = expected.clone();
         got.insert("ours", our_line(&job));

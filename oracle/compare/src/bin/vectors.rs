@@ -10,6 +10,22 @@ use zerocopy::{FromBytes, IntoBytes, Unalign};
 /// The number, whether leaves were merged, and how many jobs are wanted.
 const WANTED: [(u64, bool, usize); 5] = [(0, false, 60), (0, true, 30), (6, false, 10), (12, false, 25), (19, false, 25)];
 
+// What a line is, as crates/vectors names it.
+const REGION_LINE: u64 = 1;
+const IMAGE_LINE: u64 = 2;
+const RANGE_LINE: u64 = 3;
+const CPU_LINE: u64 = 4;
+const BUILD_LINE: u64 = 5;
+const OUTPUT_LINE: u64 = 6;
+const BLANK_LINE: u64 = 7;
+const LOAD_LINE: u64 = 8;
+const FRESH_LINE: u64 = 9;
+const SET_LINE: u64 = 10;
+const INDEX_LINE: u64 = 11;
+const READ_LINE: u64 = 12;
+const MASK_LINE: u64 = 13;
+const PLACE_LINE: u64 = 14;
+
 fn small(job: &Job, image: &[u64]) -> bool {
     job.used <= 0x8000
         && job.size <= 0x20000
@@ -25,32 +41,32 @@ fn print_words(kind: u64, list: &[u64]) {
 }
 
 fn print_job(job: &Job, image: &[u64], theirs: &Answer) {
-    println!("1 {:x} {:x} {:x}", job.gpa, job.size, job.used);
+    println!("{REGION_LINE:x} {:x} {:x} {:x}", job.gpa, job.size, job.used);
     // The pages are given as words; the loads that changed nothing as loads.
     for (l, n) in job.loads.iter().zip(&theirs.loads) {
         if l.data.is_empty() || *n != Ok(0) {
-            println!("8 {:x} {:x} {:x}", l.gpa, l.data.len(), n.as_ref().expect("no panic"));
+            println!("{LOAD_LINE:x} {:x} {:x} {:x}", l.gpa, l.data.len(), n.as_ref().expect("no panic"));
         }
     }
-    print_words(2, image);
+    print_words(IMAGE_LINE, image);
     for r in &job.ranges {
-        println!("3 {:x} {:x} {:x}", r.0, r.1, r.2);
+        println!("{RANGE_LINE:x} {:x} {:x} {:x}", r.0, r.1, r.2);
     }
-    println!("4 {:x} {:x} {:x}", job.cr3, job.cr4, job.table_offset);
+    println!("{CPU_LINE:x} {:x} {:x} {:x}", job.cr3, job.cr4, job.table_offset);
     match &theirs.built {
         Built::Tables { bytes, merged } => {
-            println!("5 0 {:x} {merged:x}", bytes.len());
-            print_words(6, &words(bytes));
+            println!("{BUILD_LINE:x} 0 {:x} {merged:x}", bytes.len());
+            print_words(OUTPUT_LINE, &words(bytes));
         }
         Built::Refused(n, place) => {
-            println!("5 {n:x} 0 0");
+            println!("{BUILD_LINE:x} {n:x} 0 0");
             if let Some((va, size, offset)) = place {
-                println!("e {va:x} {size:x} {offset:x}");
+                println!("{PLACE_LINE:x} {va:x} {size:x} {offset:x}");
             }
         }
         Built::Panic(_) => unreachable!(),
     }
-    println!("7");
+    println!("{BLANK_LINE:x}");
 }
 
 fn entry(word: u64) -> PageTableEntry {
@@ -71,22 +87,22 @@ fn print_entries(r: &mut Random) {
         let a = (r.word() & document::FIELD) / unit * unit;
         let mut e = entry(r.word());
         e.set_entry([Kind::Leaf4kPage(a), Kind::Leaf2MbPage(a), Kind::Leaf1GbPage(a), Kind::Pde(a)][level]);
-        println!("9 {level:x} {a:x} {:x}", value(&e));
+        println!("{FRESH_LINE:x} {level:x} {a:x} {:x}", value(&e));
         let (old, a) = (r.word(), r.word() & document::FIELD);
         let mut e = entry(old);
-        println!("c {old:x} {:x} {:x}", e.gpa().is_some() as u64, e.gpa().unwrap_or(0));
+        println!("{READ_LINE:x} {old:x} {:x} {:x}", e.gpa().is_some() as u64, e.gpa().unwrap_or(0));
         e.set_addr(a);
-        println!("a {old:x} {a:x} {:x}", value(&e));
+        println!("{SET_LINE:x} {old:x} {a:x} {:x}", value(&e));
         let a = r.word();
         let mut t = <[Unalign<PageTable>]>::ref_from_bytes(&[0; 4096]).expect("one table")[0].into_inner();
         let first = &t[0] as *const PageTableEntry as usize;
         let at = (t.entry(a, level as u8) as *const PageTableEntry as usize - first) / 8;
-        println!("b {a:x} {level:x} {at:x}");
+        println!("{INDEX_LINE:x} {a:x} {level:x} {at:x}");
     }
     for mask in [0, 1, 0x8000_0000, 0x8000_0001, 0x0001_1000] {
         let bits = original::extract_individual_masks(mask);
         for i in 0..=bits.len() {
-            println!("d {mask:x} {i:x} {:x}", bits.get(i).unwrap_or(&0));
+            println!("{MASK_LINE:x} {mask:x} {i:x} {:x}", bits.get(i).unwrap_or(&0));
         }
     }
 }

@@ -42,9 +42,3 @@ impl<K: Ord + Copy, V> RangeMap<K, V> {
         self.place(&range).ok().map(|i| &self.ranges[i].2)
     }
 }
-
-impl<K: Ord + Copy, V> Default for RangeMap<K, V> {
-    fn default() -> Self {
-        Self::new()
-    }
-}
