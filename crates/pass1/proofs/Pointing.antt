@@ -84,9 +84,9 @@ follows p x points found low ws xs =
 refuses : {p : Plan} {x : Spot} {m : Mem} {w : Walk} (n : ℕ) → (n ≡ 0 → ⊥)
     → ((ws xs : List ℕ) (down : ℕ → State → Step State) → stop n (placeAt (x .va) (x .level)) ≡ performed ws p down x m xs w)
     → {r : Refusal} → r ≡ refusalAt n (x .va) (x .level) → {v : Walk} → v ≡ refusing w r → {o : Opened} → o ≡ ended v → Opens p x m w m o
-refuses {x = x} {m = m} {w = w} n some e er ev eo =
+refuses {x = x} {m = m} {w = w} n f e er ev eo =
     rw (eo, ev, er) (record {
-      step = λ ws xs down. outcome-stop m xs (refusing w (refusalAt n (x .va) (x .level))) some ∙ e ws xs down;
+      step = λ ws xs down. outcome-stop m xs (refusing w (refusalAt n (x .va) (x .level))) f ∙ e ws xs down;
       store = refl;
       fits = tt;
     })
