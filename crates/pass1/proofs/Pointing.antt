@@ -80,12 +80,19 @@ follows p x points found low ws xs =
     act-follow (planOf p ws (length xs)) (x .level) (x .va) (x .entry) (is .here) (is .points) (here .0) (rw (here .1) low)
     ∙ ap (λ (n : ℕ). follow n (moved p x)) (here .1)
 
--- refused with n: r is the code's refusal, v the state with it, and o the answer
+-- the answer where the entry is refused with n
+abbrev pub refusedWith : ℕ → Spot → Walk → Opened
+refusedWith n x w = ended (refusing w (refusalAt n (x .va) (x .level)))
+
+-- as the code makes it: the refusal, the state with it, the answer
+pub refused-is : (w : Walk) {s r : Refusal} {v : Walk} {o : Opened} → r ≡ s → v ≡ refusing w r → o ≡ ended v → o ≡ ended (refusing w s)
+refused-is w er ev eo = rw (eo, ev, er)
+
 refuses : {p : Plan} {x : Spot} {m : Mem} {w : Walk} (n : ℕ) → (n ≡ 0 → ⊥)
     → ((ws xs : List ℕ) (down : ℕ → State → Step State) → stop n (placeAt (x .va) (x .level)) ≡ performed ws p down x m xs w)
-    → {r : Refusal} → r ≡ refusalAt n (x .va) (x .level) → {v : Walk} → v ≡ refusing w r → {o : Opened} → o ≡ ended v → Opens p x m w m o
-refuses {x = x} {m = m} {w = w} n f e er ev eo =
-    rw (eo, ev, er) (record {
+    → {o : Opened} → o ≡ refusedWith n x w → Opens p x m w m o
+refuses {x = x} {m = m} {w = w} n f e eo =
+    rw eo (record {
       step = λ ws xs down. outcome-stop m xs (refusing w (refusalAt n (x .va) (x .level))) f ∙ e ws xs down;
       store = refl;
       fits = tt;
@@ -93,8 +100,7 @@ refuses {x = x} {m = m} {w = w} n f e er ev eo =
 
 module _ {p : Plan} {x : Spot} {m : Mem} {w : Walk} {a : ℕ} (points : Points x a) where
   module _ {i : ℕ} (found : tableIn (p .old) a ≡ some i) where
-    pub opens-free : p .old .used / 4096 ≤ i
-        → {r : Refusal} → r ≡ refusalAt 9 (x .va) (x .level) → {v : Walk} → v ≡ refusing w r → {o : Opened} → o ≡ ended v → Opens p x m w m o
+    pub opens-free : p .old .used / 4096 ≤ i → {o : Opened} → o ≡ refusedWith 9 x w → Opens p x m w m o
     unfolding perform usedTables
     opens-free h =
         let is = points .pointer in
@@ -103,8 +109,7 @@ module _ {p : Plan} {x : Spot} {m : Mem} {w : Walk} {a : ℕ} (points : Points x
         acts p x m w ws xs down (act-free (planOf p ws (length xs)) (x .level) (x .va) (x .entry) (is .here) (is .points) (here .0) (rw (here .1) h))
 
     module _ (low : i < p .old .used / 4096) where
-      pub opens-again : setOf (w .reached) i ≡ true
-          → {r : Refusal} → r ≡ refusalAt 10 (x .va) (x .level) → {v : Walk} → v ≡ refusing w r → {o : Opened} → o ≡ ended v → Opens p x m w m o
+      pub opens-again : setOf (w .reached) i ≡ true → {o : Opened} → o ≡ refusedWith 10 x w → Opens p x m w m o
       opens-again b =
           refuses 10 (λ z. omega arith) λ ws xs down.
           sym (perform-again (length xs / 3) down (x .level) (x .va) (x .word) (view m xs w) i (moved p x) b)
@@ -128,8 +133,7 @@ module _ {p : Plan} {x : Spot} {m : Mem} {w : Walk} {a : ℕ} (points : Points x
           }
 
   module _ (out : tableIn (p .old) a ≡ none) where
-    pub opens-moved : {i : ℕ} → tableIn (p .new) a ≡ some i
-        → {r : Refusal} → r ≡ refusalAt 11 (x .va) (x .level) → {v : Walk} → v ≡ refusing w r → {o : Opened} → o ≡ ended v → Opens p x m w m o
+    pub opens-moved : {i : ℕ} → tableIn (p .new) a ≡ some i → {o : Opened} → o ≡ refusedWith 11 x w → Opens p x m w m o
     unfolding perform
     opens-moved found =
         let is = points .pointer in

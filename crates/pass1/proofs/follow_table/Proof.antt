@@ -1,8 +1,7 @@
 -- `pass1::follow_table` meets its contract: a free or a reached table is refused, else the entry is written and the table marked. No loop.
 -- What the code found is told at the place past each test; the laws of Pointing turn it into the act.
 -- Assumes nothing.
-use Rattle.pass1.proofs.Pointing.{opens-free, opens-again, opens-down, to-fits}
-use Rattle.reached.specs.Held.{setOf}
+use Rattle.pass1.proofs.Pointing.{refused-is, opens-free, opens-again, opens-down, to-fits}
 use Rattle.reached.proofs.Laws.{marked-low}
 use native.Mathlib.Omega.{arith}
 use mathlib.Core.Path.{sym, _∙_}
@@ -37,8 +36,9 @@ returns : tie.Need-returns
 returns c =
     let r = c .before in
     let t = r .before .before in
-    let p = start (t .before) .pre .1 in
-    opens-free (p .0) (p .1) (t .if1 .taken) (r .before .at .ensures) (r .refused .ensures) (c .done .ensures)
+    let s = start (t .before) in
+    opens-free (s .pre .1 .0) (s .pre .1 .1) (t .if1 .taken)
+    (refused-is (s .args .state) (r .before .at .ensures) (r .refused .ensures) (c .done .ensures))
 
 mark-and-ask-requires : tie.Need-mark-and-ask-requires
 mark-and-ask-requires c κs = search needs
@@ -57,9 +57,10 @@ returns-2 c =
     let r = c .before in
     let t = r .before .before in
     let k = t .before in
-    let p = begun k .pre .1 in
+    let s = begun k in
     let was = sym (k .mark-and-ask .ensures .1) ∙ t .if2 .taken in
-    opens-again (p .0) (p .1) (used k .if1 .left) was (r .before .at2 .ensures) (r .refused2 .ensures) (c .done2 .ensures)
+    opens-again (s .pre .1 .0) (s .pre .1 .1) (used k .if1 .left) was
+    (refused-is (s .args .state) (r .before .at2 .ensures) (r .refused2 .ensures) (c .done2 .ensures))
 
 wrapping-add-u64-requires : tie.Need-wrapping-add-u64-requires
 wrapping-add-u64-requires c κs = search needs

@@ -25,13 +25,22 @@ past₂ c = c .before .before
 abbrev set : tie.After-slice-known3 → tie.After-with-address
 set c = c .before .before .before .before
 
--- the store's answer
+-- the store's answer, and its arm that keeps the leaf
 abbrev asked : tie.After-slice-known3 → tie.After-remember
 asked c = c .before .before
 
+abbrev stored : tie.After-write-word → tie.After-kept
+stored c = c .before .before .before
+
 -- ---- what the tests and calls gave
+remainder : (c : tie.After-span-of) → let a = start c .args in a .offset % c .span-of .result ≡ a .offset % span (a .spot .level)
+remainder c = ap (λ (n : ℕ). start c .args .offset % n) (c .span-of .ensures .0)
+
+odd : (c : tie.Then1) → let a = start (c .before) .args in a .offset % span (a .spot .level) ≡ 0 → ⊥
+odd c h = c .if1 .taken (remainder (c .before) ∙ h)
+
 whole : (c : tie.Else1) → let a = start (c .before) .args in a .offset % span (a .spot .level) ≡ 0
-whole c = sym (ap (λ (n : ℕ). start (c .before) .args .offset % n) (c .before .span-of .ensures .0)) ∙ c .if1 .left
+whole c = sym (remainder (c .before)) ∙ c .if1 .left
 
 -- an entry's addresses are not more than lie below the bound
 below : (c : tie.After-struct-known) → sized c .span-of .result ≤ start (sized c) .args .geometry .limit
@@ -39,6 +48,11 @@ below c =
     let p = start (sized c) .pre in
     let l = start (sized c) .args .spot .level in
     omega (arith, sized c .span-of .ensures .0, span-mono l _ (p .hand .level), p .geometry .spans)
+
+far : (c : tie.Then2)
+    → let a = start (sized (c .before)) .args in a .geometry .limit < shifted (a .spot .va) (a .offset) + span (a .spot .level)
+unfolding shifted
+far c = omega (arith, sized (c .before) .span-of .ensures .0, c .before .before .wrapping-add-u64 .ensures, c .if2 .taken)
 
 away : (c : tie.After-with-address)
     → let a = start (sized (past₂ c)) .args in
@@ -65,12 +79,7 @@ with-offset-requires : tie.Need-with-offset-requires
 with-offset-requires c κs = search needs
 
 returns : tie.Need-returns
-returns c =
-    let s = c .before .before in
-    let a = start s .args in
-    let odd : a .offset % span (a .spot .level) ≡ 0 → ⊥ =
-        λ h. c .before .if1 .taken (ap (λ (n : ℕ). a .offset % n) (s .span-of .ensures .0) ∙ h) in
-    moves-odd (start s .pre .held) odd (c .with-offset .ensures)
+returns c = moves-odd (start (c .before .before) .pre .held) (odd (c .before)) (c .with-offset .ensures)
 
 wrapping-add-u64-requires : tie.Need-wrapping-add-u64-requires
 wrapping-add-u64-requires c κs = search needs
@@ -82,13 +91,9 @@ with-offset-requires-2 : tie.Need-with-offset-requires-2
 with-offset-requires-2 c κs = search needs
 
 returns-2 : tie.Need-returns-2
-unfolding shifted
 returns-2 c =
     let s = c .before .before in
-    let a = start (sized s) .args in
-    let far : a .geometry .limit < shifted (a .spot .va) (a .offset) + span (a .spot .level) =
-        omega (arith, sized s .span-of .ensures .0, s .before .wrapping-add-u64 .ensures, c .before .if2 .taken) in
-    moves-past (start (sized s) .pre .held) (whole (s .before .before)) far (c .with-offset2 .ensures)
+    moves-past (start (sized s) .pre .held) (whole (s .before .before)) (far (c .before)) (c .with-offset2 .ensures)
 
 with-address-requires : tie.Need-with-address-requires
 unfolding shifted
@@ -125,10 +130,6 @@ same-length c = search needs
 
 same-length-2 : tie.Need-same-length-2
 same-length-2 c = search needs
-
--- the answer's place, from each arm
-abbrev stored : tie.After-write-word → tie.After-kept
-stored c = c .before .before .before
 
 returns-3 : tie.Need-returns-3
 returns-3 c =

@@ -1,6 +1,6 @@
 -- `pass1::pass_outside` meets its contract: one look into the moved region, which refuses or leaves the entry. No loop.
 -- Assumes nothing.
-use Rattle.pass1.proofs.Pointing.{opens-moved, opens-outside}
+use Rattle.pass1.proofs.Pointing.{refused-is, opens-moved, opens-outside}
 use Rattle.region.specs.Meaning.{indexOf}
 use mathlib.Core.Path.{sym, ap, _∙_}
 use borrow.Author.Needs.{needs}
@@ -36,9 +36,9 @@ returns c m =
     let r = c .before in
     let t = r .before .before in
     let k = t .before .before in
-    let p = start k .pre in
+    let s = start k in
     let there = sym (k .calculate-page-table-index .ensures) ∙ ap indexOf (t .enum-told .given .1) in
-    opens-moved (p .0) (p .1) there (r .before .at .ensures) (r .refused .ensures) (c .done .ensures)
+    opens-moved (s .pre .0) (s .pre .1) there (refused-is (s .args .state) (r .before .at .ensures) (r .refused .ensures) (c .done .ensures))
 
 returns-2 : tie.Need-returns-2
 returns-2 c m =
