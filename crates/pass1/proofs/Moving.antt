@@ -158,7 +158,7 @@ module _ {g : Geometry} {x : Spot} {o b v : ℕ} (away : Away g x o b v)
     unfolding andThen
     moves-not n some e same {m} c =
         rw c (record {
-          step = λ p q reached down. acted m e p q reached down;
+          step = acted m e;
           held = (subst (λ (z : List ℕ). Held z s) (sym same) held, some);
           long = keeps .long;
         })
