@@ -3,137 +3,168 @@
 use mathlib.Core.Path.{_≡_, refl, sym, ap, subst, _∙_}
 use mathlib.Core.Bool.{true, false}
 use mathlib.Core.List.{List}
-use Prim.Native.Nat.{ℕ, _+_, _/_, _%_, _^_, _≤_, _<_}
+use Prim.Native.Nat.{ℕ, _+_, _/_, _%_, _≤_, _<_}
 use native.Mathlib.Omega.{arith}
 use lib.Dec.{leb}
 use lib.ListN.{length}
 use borrow.Author.Tests.{eq-eqb, ne-eqb, lt-ltb, le-ltb}
-use Rattle.definitions.specs.Words.{Mem, put}
+use Rattle.definitions.specs.Words.{Mem, Tables, put}
 use Rattle.definitions.specs.Geometry.{span}
 use Rattle.definitions.specs.Entry.{present, pointer, withLeafAddress}
-use Rattle.definitions.specs.Inputs.{placeAt}
+use Rattle.definitions.specs.Inputs.{placeAt, refusalAt, refusalWith}
 use Rattle.definitions.specs.Ranges.{shifted, kind, kindOf, decide, deciding, rangesOf, shift}
-use Rattle.definitions.specs.Step.{Step, go, stop, unless, andThen}
-use Rattle.definitions.specs.Pass1.{Plan, State, taken, remember, moveAct, leafAct, kindAct, act, perform}
+use Rattle.definitions.specs.Step.{Step, go, stop, stopped, unless, andThen}
+use Rattle.definitions.specs.Pass1 as D
+use Rattle.definitions.specs.Pass1.{State, taken, remember, moveAct, leafAct, kindAct, act, perform}
+use Rattle.definitions.specs.declared.Moved.{Moved}
+use Rattle.definitions.specs.declared.Place.{Place}
+use Rattle.definitions.specs.declared.Refusal.{Refusal}
+use Rattle.definitions.specs.declared.paging.Geometry.{Geometry}
 use Rattle.definitions.proofs.Pass1.{act-absent, act-stay}
 use Rattle.definitions.proofs.Step.{unless-then}
-use Rattle.definitions.proofs.Geometry.{page-fits}
-use Rattle.definitions.specs.declared.Moved.{Moved}
-use Rattle.entry.proofs.Bits.{pages}
+use Rattle.definitions.proofs.Geometry.{page-fits, span-pages}
 use Rattle.moved.specs.View.{leaf, leavesOf, keptStep, KeptIn, Keeps, Held}
 use Rattle.moved.specs.declared.Store.{Store}
 use Rattle.moved.specs.declared.Kept.{Kept}
 use Rattle.moved.specs.declared.Kept.the-variants as kept
-use Rattle.reached.specs.Held.{setOf}
-use Rattle.ranges.specs.Lists.{saysOf}
+use Rattle.ranges.specs.Lists.{saysOf, Looks, LookupFits}
 use Rattle.ranges.specs.declared.Shift.{Shift}
 use Rattle.ranges.specs.declared.Shift.the-variants.{By, Stay}
-use Rattle.pass1.specs.declared.Job.{Job}
+use Rattle.pass1.specs.declared.Plan.{Plan}
 use Rattle.pass1.specs.declared.Walk.{Walk}
 use Rattle.pass1.specs.declared.Spot.{Spot}
 use Rattle.pass1.specs.declared.Task.the-variants.{Skip, Leaf}
-use Rattle.pass1.specs.Walks.{view, outcome, refusing, planOf, Told, Moves}
+use Rattle.pass1.specs.declared.Departure.the-variants.{Stored, Refused}
+use Rattle.pass1.specs.Walks.{stateOf, view, Runs, outcome, planOf, Told, TaskFits, Moves}
 
 -- ---- the state
 
-pub outcome-go : (m : Mem) (xs : List ℕ) (w : Walk) → w .number ≡ 0 → outcome m xs w ≡ go (view m xs w)
-outcome-go m xs w h = rw (eq-eqb (w .number) 0 h)
+pub outcome-go : (m : Mem) (xs : List ℕ) (w : Walk) → Runs w → outcome m xs w ≡ go (view m xs w)
+outcome-go m xs w h = rw (eq-eqb (w .refusal .number) 0 h)
 
-pub outcome-stop : (m : Mem) (xs : List ℕ) (w : Walk) → (w .number ≡ 0 → ⊥) → outcome m xs w ≡ stop (w .number) (w .place)
-outcome-stop m xs w h = rw (ne-eqb (w .number) 0 h)
-
--- the state with another store
-abbrev pub storing : Walk → Store → Walk
-storing w t = record { reached = w .reached; store = t; number = w .number; place = w .place }
+pub outcome-stop : (m : Mem) (xs : List ℕ) (w : Walk) → (Runs w → ⊥) → outcome m xs w ≡ stopped (w .refusal)
+outcome-stop m xs w h = rw (ne-eqb (w .refusal .number) 0 h)
 
 -- ---- the task
 
-module _ (j : Job) (ws : List ℕ) (x : Spot) where
-  pub told-absent : present (x .entry) ≡ false → Told j ws x Skip
-  told-absent h n = act-absent (planOf j ws n) (x .level) (x .va) (x .entry) h
+pub looks-fit : (ws : List ℕ) (p : Plan) (x : Spot) → TaskFits ws p x → LookupFits ws (p .old) (x .level) (x .va)
+looks-fit ws p x h =
+    let g = h .plan .geometry in
+    let r = h .plan .old in
+    record {
+      level = omega (arith, h .level, g .top);
+      leaf = omega (arith, h .lies .low, g .word);
+      region = omega (arith, r .end, g .field);
+      some = omega (arith, r .some);
+      list = h .list;
+    }
+
+module _ (p : Plan) (ws : List ℕ) (x : Spot) where
+  pub told-absent : present (x .entry) ≡ false → Told ws p x Skip
+  told-absent h n = act-absent (planOf p ws n) (x .level) (x .va) (x .entry) h
 
   module _ (here : present (x .entry) ≡ true) (points : pointer (x .level) (x .entry) ≡ false)
-      (s : Shift) (says : saysOf s ≡ decide (deciding (j .old) (j .offset) (rangesOf ws)) (x .level) (x .va)) where
-    pub told-stay : s ≡ Stay → Told j ws x Skip
-    told-stay q n = act-stay (planOf j ws n) (x .level) (x .va) (x .entry) here points (sym says ∙ ap saysOf q)
+      (s : Shift) (says : Looks ws (p .old) (p .offset) (x .level) (x .va) s) where
+    pub told-stay : s ≡ Stay → Told ws p x Skip
+    told-stay q n = act-stay (planOf p ws n) (x .level) (x .va) (x .entry) here points (sym says ∙ ap saysOf q)
 
-    pub told-by : (o : ℕ) → s ≡ By o → Told j ws x (Leaf o)
+    pub told-by : (o : ℕ) → s ≡ By o → Told ws p x (Leaf o)
     unfolding act kind kindOf kindAct leafAct
     told-by o q n =
-        let d : decide (deciding (j .old) (j .offset) (rangesOf ws)) (x .level) (x .va) ≡ shift o = sym says ∙ ap saysOf q in
+        let d : decide (deciding (p .old) (p .offset) (rangesOf ws)) (x .level) (x .va) ≡ shift o = sym says ∙ ap saysOf q in
         rw (here, points, d)
 
 -- ---- a leaf that moves by o
 
-module _ (x : Spot) (o : ℕ) (m : Mem) (xs : List ℕ) (w : Walk) (held : Held xs (w .store)) where
-  pub moves-odd : (o % span (x .level) ≡ 0 → ⊥) → (r : Walk) → r ≡ refusing w 12 (x .va) (x .level) o → Moves x o m xs w m xs r
-  unfolding moveAct perform
-  moves-odd h r e = rw e (record { step = λ p q down. rw (ne-eqb (o % span (x .level)) 0 h); held = held; long = refl })
+-- its new address is of whole pages
+pub new-pages : (l a o : ℕ) → a % span l ≡ 0 → o % span l ≡ 0 → shifted a o % 4096 ≡ 0
+unfolding shifted
+new-pages l a o h k =
+    let x : a % 4096 ≡ 0 = page-fits (span l) a h (span-pages l) in
+    let y : o % 4096 ≡ 0 = page-fits (span l) o k (span-pages l) in
+    omega arith
 
-  module _ (whole : o % span (x .level) ≡ 0) where
-    pub moves-past : 2 ^ 48 < shifted (x .va) o + span (x .level) → (r : Walk) → r ≡ refusing w 13 (x .va) (x .level) o → Moves x o m xs w m xs r
-    unfolding moveAct perform
-    moves-past f r e =
-        rw e (record {
-          step = λ p q down. rw (eq-eqb (o % span (x .level)) 0 whole, lt-ltb (p .geometry .limit) (shifted (x .va) o + span (x .level)) (omega arith));
-          held = held;
-          long = refl;
+-- 12 and 13 do not apply; b is the new address, and v the word with it
+pub record Away (g : Geometry) (x : Spot) (o b v : ℕ) : Type 0 where
+  pub whole : o % span (x .level) ≡ 0
+  pub low : shifted (x .va) o + span (x .level) ≤ g .limit
+  pub to : b ≡ shifted (x .va) o
+  pub word : v ≡ withLeafAddress (x .level) (x .entry) b
+
+-- the leaf y is remembered among others, or refused at a place
+abbrev remembering : ℕ → List Moved → Place → Moved → Step (List Moved)
+remembering room ms q y = unless (taken (y .address) ms) 14 q (unless (leb room (length ms)) 15 q (go (remember y ms)))
+
+remembering-then : (room : ℕ) (ms : List Moved) (q : Place) (y : Moved) (f : List Moved → Step State)
+    → andThen (remembering room ms q y) f ≡ unless (taken (y .address) ms) 14 q (unless (leb room (length ms)) 15 q (f (remember y ms)))
+unfolding andThen
+remembering-then room ms q y f = unless-then _ 14 q _ f ∙ ap (unless (taken (y .address) ms) 14 q) (unless-then _ 15 q _ f)
+
+-- where it is refused
+abbrev place : Spot → Place
+place x = placeAt (x .va) (x .level)
+
+-- the entry is cleared, and these leaves are taken out
+abbrev cleared : Spot → Mem → Tables → List Moved → Step State
+cleared x m reached ms = go (record { mem = put m (x .word) 0; reached = reached; moved = ms })
+
+answered : (q : Place) (ys : List ℕ) {k j : Kept} → k ≡ j → keptStep q j ys ≡ keptStep q k ys
+answered q ys e = ap (λ (z : Kept). keptStep q z ys) (sym e)
+
+module _ {g : Geometry} {x : Spot} {o : ℕ} {m : Mem} {xs : List ℕ} {s : Store} (held : Held xs s) where
+  pub moves-odd : (o % span (x .level) ≡ 0 → ⊥) → {r : Refusal} → r ≡ refusalWith 12 (x .va) (x .level) o → Moves g x o m xs s m xs (Refused r)
+  unfolding moveAct perform
+  moves-odd h e =
+      rw e (record {
+        step = λ p q reached down. rw (ne-eqb (o % span (x .level)) 0 h);
+        held = (held, λ z. omega arith);
+        long = refl;
+      })
+
+  pub moves-past : o % span (x .level) ≡ 0 → g .limit < shifted (x .va) o + span (x .level)
+      → {r : Refusal} → r ≡ refusalWith 13 (x .va) (x .level) o → Moves g x o m xs s m xs (Refused r)
+  unfolding moveAct perform
+  moves-past h f e =
+      rw e (record {
+        step = λ p q reached down. rw (q, eq-eqb (o % span (x .level)) 0 h, lt-ltb _ _ f);
+        held = (held, λ z. omega arith);
+        long = refl;
+      })
+
+module _ {g : Geometry} {x : Spot} {o b v : ℕ} (away : Away g x o b v)
+    {xs : List ℕ} {s : Store} {ys : List ℕ} {k : Kept} (keeps : Keeps xs s (leaf b (x .level) v) ys k) where
+  -- what the store answered, and then the entry cleared, is the act
+  acted : (m : Mem) {z : Step (List Moved)} → z ≡ keptStep (place x) k ys → (p : D.Plan) → p .geometry ≡ g
+      → (reached : Tables) (down : ℕ → State → Step State) → andThen z (cleared x m reached)
+      ≡ perform (length xs / 3) down (x .level) (x .va) (x .word) (stateOf m xs reached s) (moveAct p (x .level) (x .va) (x .entry) o)
+  unfolding moveAct perform
+  acted m e p q reached down =
+      ap (λ (z : Step (List Moved)). andThen z (cleared x m reached)) (e ∙ keeps .step (place x))
+      ∙ remembering-then (length xs / 3) (leavesOf xs s) (place x) (leaf b (x .level) v) (cleared x m reached)
+      ∙ rw (away .word, away .to, q, eq-eqb (o % span (x .level)) 0 (away .whole), le-ltb _ _ (away .low))
+
+  pub moves-in : {t : Store} → k ≡ kept.In t → {m m′ : Mem} → m′ ≡ put m (x .word) 0 → Moves g x o m xs s m′ ys (Stored t)
+  unfolding andThen
+  moves-in {t} e {m} c =
+      record {
+        step = λ p q reached down. ap (λ (z : Mem). go (stateOf z ys reached t)) c ∙ acted m (answered (place x) ys e) p q reached down;
+        held = subst (KeptIn xs ys) e (keeps .kept);
+        long = keeps .long;
+      }
+
+  module _ (held : Held xs s) where
+    moves-not : (n : ℕ) → (n ≡ 0 → ⊥) → stop n (place x) ≡ keptStep (place x) k ys → ys ≡ xs
+        → {m : Mem} {r : Refusal} → r ≡ refusalAt n (x .va) (x .level) → Moves g x o m xs s m ys (Refused r)
+    unfolding andThen
+    moves-not n some e same {m} c =
+        rw c (record {
+          step = acted m e;
+          held = (subst (λ (z : List ℕ). Held z s) (sym same) held, some);
+          long = keeps .long;
         })
 
-    -- 12 and 13 do not apply, b is the new address and v the word with it
-    module _ (low : shifted (x .va) o + span (x .level) ≤ 2 ^ 48) (b v : ℕ) (at : b ≡ shifted (x .va) o) (set : v ≡ withLeafAddress (x .level) (x .entry) b) where
-      abbrev remembering : ℕ → ℕ → Step (List Moved)
-      remembering b v =
-          unless (taken b (leavesOf xs (w .store))) 14 (placeAt (x .va) (x .level))
-          (unless (leb (length xs / 3) (length (leavesOf xs (w .store)))) 15 (placeAt (x .va) (x .level)) (go (remember (leaf b (x .level) v) (leavesOf xs (w .store)))))
+    pub moves-clash : k ≡ kept.Clash → {m : Mem} {r : Refusal} → r ≡ refusalAt 14 (x .va) (x .level) → Moves g x o m xs s m ys (Refused r)
+    moves-clash e = moves-not 14 (λ z. omega arith) (answered (place x) ys e) (subst (KeptIn xs ys) e (keeps .kept))
 
-      abbrev onward : List Moved → Step State
-      onward ms = go (record { mem = put m (x .at) 0; reached = setOf (w .reached); moved = ms })
-
-      moved-on : (p : Plan) → p .geometry .limit ≡ 2 ^ 48 → (down : ℕ → State → Step State)
-          → andThen (remembering b v) onward ≡ perform (length xs / 3) down (x .level) (x .va) (x .at) (view m xs w) (moveAct p (x .level) (x .va) (x .entry) o)
-      unfolding moveAct perform andThen
-      moved-on p q down =
-          ap (λ (z : Step (List Moved)). andThen z onward) (ap (remembering b) set ∙ ap (λ (z : ℕ). remembering z (withLeafAddress (x .level) (x .entry) z)) at)
-          ∙ rw (eq-eqb (o % span (x .level)) 0 whole, le-ltb (p .geometry .limit) (shifted (x .va) o + span (x .level)) (omega arith))
-          (unless-then (taken (shifted (x .va) o) (leavesOf xs (w .store))) 14 (placeAt (x .va) (x .level)) _ onward
-          ∙ ap (unless (taken (shifted (x .va) o) (leavesOf xs (w .store))) 14 (placeAt (x .va) (x .level))) (unless-then (leb (length xs / 3) (length (leavesOf xs (w .store)))) 15 (placeAt (x .va) (x .level)) _ onward))
-
-      module _ (ys : List ℕ) (k : Kept) (keeps : Keeps xs (w .store) (leaf b (x .level) v) ys k) where
-        pub moves-in : (t : Store) → k ≡ kept.In t → w .number ≡ 0 → (m′ : Mem) → m′ ≡ put m (x .at) 0 → Moves x o m xs w m′ ys (storing w t)
-        unfolding andThen
-        moves-in t q runs m′ e =
-            record {
-              step = λ p l down. outcome-go m′ ys (storing w t) runs
-                  ∙ ap (λ (z : Mem). go (record { mem = z; reached = setOf (w .reached); moved = leavesOf ys t })) e
-                  ∙ ap (λ (z : Step (List Moved)). andThen z onward) (ap (λ (z : Kept). keptStep (placeAt (x .va) (x .level)) z ys) (sym q) ∙ keeps .step (placeAt (x .va) (x .level)))
-                  ∙ moved-on p l down;
-              held = subst (KeptIn xs ys) q (keeps .kept);
-              long = keeps .long;
-            }
-
-        -- 14 and 15
-        moves-not : (n : ℕ) → (n ≡ 0 → ⊥) → ys ≡ xs → stop n (placeAt (x .va) (x .level)) ≡ keptStep (placeAt (x .va) (x .level)) k ys
-            → (r : Walk) → r ≡ refusing w n (x .va) (x .level) 0 → Moves x o m xs w m ys r
-        unfolding andThen
-        moves-not n f s e r d =
-            rw d (record {
-              step = λ p l down. outcome-stop m ys (refusing w n (x .va) (x .level) 0) f
-                  ∙ ap (λ (z : Step (List Moved)). andThen z onward) (e ∙ keeps .step (placeAt (x .va) (x .level))) ∙ moved-on p l down;
-              held = subst (λ (z : List ℕ). Held z (w .store)) (sym s) held;
-              long = keeps .long;
-            })
-
-        pub moves-clash : k ≡ kept.Clash → (r : Walk) → r ≡ refusing w 14 (x .va) (x .level) 0 → Moves x o m xs w m ys r
-        moves-clash q = moves-not 14 (λ z. omega arith) (subst (KeptIn xs ys) q (keeps .kept)) (ap (λ (z : Kept). keptStep (placeAt (x .va) (x .level)) z ys) (sym q))
-
-        pub moves-full : k ≡ kept.Full → (r : Walk) → r ≡ refusing w 15 (x .va) (x .level) 0 → Moves x o m xs w m ys r
-        moves-full q = moves-not 15 (λ z. omega arith) (subst (KeptIn xs ys) q (keeps .kept)) (ap (λ (z : Kept). keptStep (placeAt (x .va) (x .level)) z ys) (sym q))
-
--- the new address is of whole pages
-pub new-pages : (l s a o : ℕ) → s ≡ span l → a % span l ≡ 0 → o % s ≡ 0 → (a + o) % 2 ^ 64 % 4096 ≡ 0
-new-pages l s a o e h k =
-    let p : (0 < s) × (s % 4096 ≡ 0) = pages l s e in
-    let x : a % 4096 ≡ 0 = page-fits (span l) a h (sym (ap (λ (n : ℕ). n % 4096) e) ∙ p .1) in
-    let y : o % 4096 ≡ 0 = page-fits s o k (p .1) in
-    omega arith
+    pub moves-full : k ≡ kept.Full → {m : Mem} {r : Refusal} → r ≡ refusalAt 15 (x .va) (x .level) → Moves g x o m xs s m ys (Refused r)
+    moves-full e = moves-not 15 (λ z. omega arith) (answered (place x) ys e) (subst (KeptIn xs ys) e (keeps .kept))

@@ -1,54 +1,108 @@
-use Rattle.pass1.proofs.Moving.{moves-odd, moves-past, moves-in, moves-clash, moves-full, new-pages}
+-- `pass1::move_leaf` meets its contract: two tests that refuse, and then what the store answers to the leaf with its new address. No loop.
+-- Past both tests `away` gathers what they and the calls gave; the laws of Moving turn it, with the store's answer, into the act.
+-- Assumes nothing.
+use Rattle.pass1.proofs.Moving.{Away, moves-odd, moves-past, moves-in, moves-clash, moves-full, new-pages}
 use Rattle.definitions.specs.Ranges.{shifted}
 use Rattle.definitions.specs.Geometry.{span}
-use Prim.Native.Nat.{ℕ, _%_}
+use Rattle.definitions.proofs.Geometry.{span-mono}
+use Prim.Native.Nat.{ℕ, _+_, _%_, _≤_, _<_}
 use native.Mathlib.Omega.{arith}
 use mathlib.Core.Path.{_≡_, sym, ap, _∙_}
 use borrow.Author.Needs.{needs}
 use Rattle.pass1.proofs.move_leaf.Statement.{statement}
 use Rattle.pass1.proofs.move_leaf.Tie as tie
 
+-- ---- the places, seen from the call of span_of
+abbrev start : tie.After-span-of → tie.Start
+start c = c .before .before .before
+
+abbrev sized : tie.After-struct-known → tie.After-span-of
+sized c = c .before .before .before
+
+abbrev past₂ : tie.After-with-address → tie.After-struct-known
+past₂ c = c .before .before
+
+abbrev set : tie.After-slice-known3 → tie.After-with-address
+set c = c .before .before .before .before
+
+-- the store's answer, and its arm that keeps the leaf
+abbrev asked : tie.After-slice-known3 → tie.After-remember
+asked c = c .before .before
+
+abbrev stored : tie.After-write-word → tie.After-kept
+stored c = c .before .before .before
+
+-- ---- what the tests and calls gave
+remainder : (c : tie.After-span-of) → let a = start c .args in a .offset % c .span-of .result ≡ a .offset % span (a .spot .level)
+remainder c = ap (λ (n : ℕ). start c .args .offset % n) (c .span-of .ensures .0)
+
+odd : (c : tie.Then1) → let a = start (c .before) .args in a .offset % span (a .spot .level) ≡ 0 → ⊥
+odd c h = c .if1 .taken (remainder (c .before) ∙ h)
+
+whole : (c : tie.Else1) → let a = start (c .before) .args in a .offset % span (a .spot .level) ≡ 0
+whole c = sym (remainder (c .before)) ∙ c .if1 .left
+
+-- an entry's addresses are not more than lie below the bound
+below : (c : tie.After-struct-known) → sized c .span-of .result ≤ start (sized c) .args .geometry .limit
+below c =
+    let p = start (sized c) .pre in
+    let l = start (sized c) .args .spot .level in
+    omega (arith, sized c .span-of .ensures .0, span-mono l _ (p .hand .level), p .geometry .spans)
+
+far : (c : tie.Then2)
+    → let a = start (sized (c .before)) .args in a .geometry .limit < shifted (a .spot .va) (a .offset) + span (a .spot .level)
+unfolding shifted
+far c = omega (arith, sized (c .before) .span-of .ensures .0, c .before .before .wrapping-add-u64 .ensures, c .if2 .taken)
+
+away : (c : tie.After-with-address)
+    → let a = start (sized (past₂ c)) .args in
+    Away (a .geometry) (a .spot) (a .offset) (past₂ c .before .wrapping-add-u64 .result) (c .with-address .result)
+unfolding shifted
+away c =
+    let s = past₂ c in
+    let to = s .before .wrapping-add-u64 .ensures in
+    record {
+      whole = whole (s .before .before);
+      low = omega (arith, sized s .span-of .ensures .0, to, below s, c .before .if2 .left);
+      to = to;
+      word = c .with-address .ensures;
+    }
+
+-- ---- the needs
 span-of-requires : tie.Need-span-of-requires
 span-of-requires c κs = search needs
 
 rem-if1 : tie.Need-rem-if1
 rem-if1 c = search needs
 
-refused-requires : tie.Need-refused-requires
-refused-requires c κs = search needs
+with-offset-requires : tie.Need-with-offset-requires
+with-offset-requires c κs = search needs
 
 returns : tie.Need-returns
-returns c =
-    let a = c .before .before .before .before .before .args in
-    let p = c .before .before .before .before .before .pre in
-    let z = c .before .before .span-of .ensures .0 in
-    moves-odd (a .spot) (a .offset) _ (a .scratch .now) (a .state) (p .0 .1) (λ h. c .before .if1 .taken (ap (λ (n : ℕ). a .offset % n) z ∙ h)) _ (c .refused .ensures)
+returns c = moves-odd (start (c .before .before) .pre .held) (odd (c .before)) (c .with-offset .ensures)
 
 wrapping-add-u64-requires : tie.Need-wrapping-add-u64-requires
 wrapping-add-u64-requires c κs = search needs
 
 sub-if2 : tie.Need-sub-if2
-sub-if2 c = search needs
+sub-if2 c = below c
 
-refused-requires-2 : tie.Need-refused-requires-2
-refused-requires-2 c κs = search needs
+with-offset-requires-2 : tie.Need-with-offset-requires-2
+with-offset-requires-2 c κs = search needs
 
 returns-2 : tie.Need-returns-2
-unfolding shifted
 returns-2 c =
-    let a = c .before .before .before .before .before .before .before .args in
-    let p = c .before .before .before .before .before .before .before .pre in
-    let z = c .before .before .before .before .span-of .ensures .0 in
-    let q : a .offset % span (a .spot .level) ≡ 0 = sym (ap (λ (n : ℕ). a .offset % n) z) ∙ c .before .before .before .if1 .left in
-    moves-past (a .spot) (a .offset) _ (a .scratch .now) (a .state) (p .0 .1) q (omega (arith, z, c .before .before .wrapping-add-u64 .ensures, c .before .if2 .taken)) _ (c .refused2 .ensures)
+    let s = c .before .before in
+    moves-past (start (sized s) .pre .held) (whole (s .before .before)) (far (c .before)) (c .with-offset2 .ensures)
 
 with-address-requires : tie.Need-with-address-requires
+unfolding shifted
 with-address-requires c κs =
-    let a = c .before .before .before .before .before .before .args in
-    let p = c .before .before .before .before .before .before .pre in
-    let z = c .before .before .before .span-of .ensures .0 in
-    let w = new-pages (a .spot .level) (c .before .before .before .span-of .result) (a .spot .va) (a .offset) z (p .1 .whole) (c .before .before .if1 .left) in
-    (omega (arith, w, c .before .wrapping-add-u64 .ensures), omega (arith, c .if2 .left))
+    let s = c .before in
+    let a = start (sized s) .args in
+    let p = start (sized s) .pre in
+    let pages = new-pages (a .spot .level) (a .spot .va) (a .offset) (p .hand .lies .whole) (whole (s .before .before)) in
+    (ap (λ (n : ℕ). n % 4096) (s .before .wrapping-add-u64 .ensures) ∙ pages, omega (arith, c .if2 .left, below s, p .geometry .field))
 
 remember-requires : tie.Need-remember-requires
 remember-requires c κs = search needs
@@ -62,14 +116,14 @@ write-word-requires c κs = search needs
 enum-told : tie.Need-enum-told
 enum-told c = search needs
 
-refused-requires-3 : tie.Need-refused-requires-3
-refused-requires-3 c κs = search needs
+at-requires : tie.Need-at-requires
+at-requires c κs = search needs
 
 enum-told-2 : tie.Need-enum-told-2
 enum-told-2 c = search needs
 
-refused-requires-4 : tie.Need-refused-requires-4
-refused-requires-4 c κs = search needs
+at-requires-2 : tie.Need-at-requires-2
+at-requires-2 c κs = search needs
 
 same-length : tie.Need-same-length
 same-length c = search needs
@@ -78,37 +132,26 @@ same-length-2 : tie.Need-same-length-2
 same-length-2 c = search needs
 
 returns-3 : tie.Need-returns-3
-unfolding shifted
 returns-3 c =
-    let a = c .before .before .before .before .before .before .before .before .before .before .before .before .before .before .before .before .before .before .before .args in
-    let p = c .before .before .before .before .before .before .before .before .before .before .before .before .before .before .before .before .before .before .before .pre in
-    let z = c .before .before .before .before .before .before .before .before .before .before .before .before .before .before .before .before .span-of .ensures .0 in
-    let q : a .offset % span (a .spot .level) ≡ 0 = sym (ap (λ (n : ℕ). a .offset % n) z) ∙ c .before .before .before .before .before .before .before .before .before .before .before .before .before .before .before .if1 .left in
-    moves-in (a .spot) (a .offset) _ (a .scratch .now) (a .state) (p .0 .1) q (omega (arith, z, c .before .before .before .before .before .before .before .before .before .before .before .before .before .before .wrapping-add-u64 .ensures, c .before .before .before .before .before .before .before .before .before .before .before .before .before .if2 .left)) (c .before .before .before .before .before .before .before .before .before .before .before .before .before .before .wrapping-add-u64 .result) (c .before .before .before .before .before .before .before .before .before .before .before .before .with-address .result) (c .before .before .before .before .before .before .before .before .before .before .before .before .before .before .wrapping-add-u64 .ensures) (c .before .before .before .before .before .before .before .before .before .before .before .before .with-address .ensures) (c .before .before .before .before .before .before .before .before .before .remember .last .0) _ (c .before .before .before .before .before .before .before .before .before .remember .ensures) _ (c .before .before .before .before .before .kept .given .1) (p .0 .0 .runs) _ (c .before .before .write-word .ensures .0)
+    let w = c .before .before in
+    let k = stored w .before .before in
+    moves-in (away (set k)) (asked k .remember .ensures) (stored w .kept .given .1) (w .write-word .ensures .0)
 
 same-length-3 : tie.Need-same-length-3
 same-length-3 c = search needs
 
 returns-4 : tie.Need-returns-4
-unfolding shifted
 returns-4 c =
-    let a = c .before .before .before .before .before .before .before .before .before .before .before .before .before .before .before .args in
-    let p = c .before .before .before .before .before .before .before .before .before .before .before .before .before .before .before .pre in
-    let z = c .before .before .before .before .before .before .before .before .before .before .before .before .span-of .ensures .0 in
-    let q : a .offset % span (a .spot .level) ≡ 0 = sym (ap (λ (n : ℕ). a .offset % n) z) ∙ c .before .before .before .before .before .before .before .before .before .before .before .if1 .left in
-    moves-clash (a .spot) (a .offset) _ (a .scratch .now) (a .state) (p .0 .1) q (omega (arith, z, c .before .before .before .before .before .before .before .before .before .before .wrapping-add-u64 .ensures, c .before .before .before .before .before .before .before .before .before .if2 .left)) (c .before .before .before .before .before .before .before .before .before .before .wrapping-add-u64 .result) (c .before .before .before .before .before .before .before .before .with-address .result) (c .before .before .before .before .before .before .before .before .before .before .wrapping-add-u64 .ensures) (c .before .before .before .before .before .before .before .before .with-address .ensures) (c .before .before .before .before .before .remember .last .0) _ (c .before .before .before .before .before .remember .ensures) (c .before .enum-told .given .1) _ (c .refused3 .ensures)
+    let k = c .before .before .before in
+    moves-clash (away (set k)) (asked k .remember .ensures) (start (sized (past₂ (set k))) .pre .held) (c .before .enum-told .given .1) (c .at .ensures)
 
 same-length-4 : tie.Need-same-length-4
 same-length-4 c = search needs
 
 returns-5 : tie.Need-returns-5
-unfolding shifted
 returns-5 c =
-    let a = c .before .before .before .before .before .before .before .before .before .before .before .before .before .before .before .args in
-    let p = c .before .before .before .before .before .before .before .before .before .before .before .before .before .before .before .pre in
-    let z = c .before .before .before .before .before .before .before .before .before .before .before .before .span-of .ensures .0 in
-    let q : a .offset % span (a .spot .level) ≡ 0 = sym (ap (λ (n : ℕ). a .offset % n) z) ∙ c .before .before .before .before .before .before .before .before .before .before .before .if1 .left in
-    moves-full (a .spot) (a .offset) _ (a .scratch .now) (a .state) (p .0 .1) q (omega (arith, z, c .before .before .before .before .before .before .before .before .before .before .wrapping-add-u64 .ensures, c .before .before .before .before .before .before .before .before .before .if2 .left)) (c .before .before .before .before .before .before .before .before .before .before .wrapping-add-u64 .result) (c .before .before .before .before .before .before .before .before .with-address .result) (c .before .before .before .before .before .before .before .before .before .before .wrapping-add-u64 .ensures) (c .before .before .before .before .before .before .before .before .with-address .ensures) (c .before .before .before .before .before .remember .last .0) _ (c .before .before .before .before .before .remember .ensures) (c .before .enum-told2 .given .1) _ (c .refused4 .ensures)
+    let k = c .before .before .before in
+    moves-full (away (set k)) (asked k .remember .ensures) (start (sized (past₂ (set k))) .pre .held) (c .before .enum-told2 .given .1) (c .at2 .ensures)
 
 pub move-leaf-spec : {M : Type 1} → statement M
 move-leaf-spec =
@@ -116,20 +159,20 @@ move-leaf-spec =
     (tie.spec
     span-of-requires
     rem-if1
-    refused-requires
+    with-offset-requires
     returns
     wrapping-add-u64-requires
     sub-if2
-    refused-requires-2
+    with-offset-requires-2
     returns-2
     with-address-requires
     remember-requires
     enum-known-kept
     write-word-requires
     enum-told
-    refused-requires-3
+    at-requires
     enum-told-2
-    refused-requires-4
+    at-requires-2
     same-length
     same-length-2
     returns-3

@@ -1,15 +1,23 @@
-use Rattle.pass1.proofs.Pointing.{opens-moved, opens-outside}
+-- `pass1::pass_outside` meets its contract: one look into the moved region, which refuses or leaves the entry. No loop.
+-- Assumes nothing.
+use Rattle.pass1.proofs.Pointing.{refused-is, opens-moved, opens-outside}
 use Rattle.region.specs.Meaning.{indexOf}
 use mathlib.Core.Path.{sym, ap, _∙_}
 use borrow.Author.Needs.{needs}
 use Rattle.pass1.proofs.pass_outside.Statement.{statement}
 use Rattle.pass1.proofs.pass_outside.Tie as tie
 
+abbrev start : tie.After-calculate-page-table-index → tie.Start
+start c = c .before .before
+
 calculate-page-table-index-requires : tie.Need-calculate-page-table-index-requires
 calculate-page-table-index-requires c κs = search needs
 
 enum-told : tie.Need-enum-told
 enum-told c = search needs
+
+at-requires : tie.Need-at-requires
+at-requires c κs = search needs
 
 refused-requires : tie.Need-refused-requires
 refused-requires c κs = search needs
@@ -24,18 +32,20 @@ done-requires-2 : tie.Need-done-requires-2
 done-requires-2 c κs = search needs
 
 returns : tie.Need-returns
-returns c =
-    λ m.
-    let a = c .before .before .before .before .before .before .args in
-    let p = c .before .before .before .before .before .before .pre in
-    opens-moved (a .job) (a .spot) m (a .state) (a .target) (p .0) (p .1) _ (sym (c .before .before .before .before .calculate-page-table-index .ensures) ∙ ap indexOf (c .before .before .enum-told .given .1)) _ _ (c .before .refused .ensures) (c .done .ensures)
+returns c m =
+    let r = c .before in
+    let t = r .before .before in
+    let k = t .before .before in
+    let s = start k in
+    let there = sym (k .calculate-page-table-index .ensures) ∙ ap indexOf (t .enum-told .given .1) in
+    opens-moved (s .pre .0) (s .pre .1) there (refused-is (s .args .state) (r .before .at .ensures) (r .refused .ensures) (c .done .ensures))
 
 returns-2 : tie.Need-returns-2
-returns-2 c =
-    λ m.
-    let a = c .before .before .before .before .before .args in
-    let p = c .before .before .before .before .before .pre in
-    opens-outside (a .job) (a .spot) m (a .state) (a .target) (p .0) (p .1) (sym (c .before .before .before .calculate-page-table-index .ensures) ∙ ap indexOf (c .before .enum-told2 .given .1)) (p .2) _ (c .done2 .ensures)
+returns-2 c m =
+    let k = c .before .before .before in
+    let p = start k .pre in
+    let there = sym (k .calculate-page-table-index .ensures) ∙ ap indexOf (c .before .enum-told2 .given .1) in
+    opens-outside (p .0) (p .1) there (p .2) (c .done2 .ensures)
 
 pub pass-outside-spec : {M : Type 1} → statement M
 pass-outside-spec =
@@ -43,6 +53,7 @@ pass-outside-spec =
     (tie.spec
     calculate-page-table-index-requires
     enum-told
+    at-requires
     refused-requires
     done-requires
     enum-told-2

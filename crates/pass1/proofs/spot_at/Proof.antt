@@ -1,3 +1,5 @@
+-- `pass1::spot_at` meets its contract: the word that is read is the entry, the rest is as given. No loop.
+-- Assumes nothing.
 use Prim.Native.Nat.{ℕ}
 use mathlib.Core.Path.{ap}
 use borrow.Author.Needs.{needs}
@@ -8,7 +10,9 @@ read-word-requires : tie.Need-read-word-requires
 read-word-requires c κs = search needs
 
 returns : tie.Need-returns
-returns c = ap (λ (e : ℕ). record { at = c .before .before .args .at; entry = e; level = c .before .before .args .level; va = c .before .before .args .va }) (c .read-word .ensures)
+returns c =
+    let a = c .before .before .args in
+    ap (λ (e : ℕ). record { word = a .word; entry = e; level = a .level; va = a .va }) (c .read-word .ensures)
 
 pub spot-at-spec : {M : Type 1} → statement M
 spot-at-spec = tie.close (tie.spec read-word-requires returns)

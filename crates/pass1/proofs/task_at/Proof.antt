@@ -1,31 +1,49 @@
-use Rattle.pass1.proofs.Moving.{told-absent, told-stay, told-by}
+-- `pass1::task_at` meets its contract: two tests of the entry, and for a leaf what `lookup` says. No loop.
+-- What the tests gave is told at the place past each; the laws of Moving turn it into the act.
+-- Assumes nothing.
+use Rattle.pass1.proofs.Moving.{looks-fit, told-absent, told-stay, told-by}
+use Rattle.definitions.specs.Entry.{present, pointer}
 use borrow.Author.Tests.{not-true, not-false}
-use native.Mathlib.Omega.{arith}
-use mathlib.Core.Path.{sym, _∙_}
+use mathlib.Core.Bool.{true, false}
+use mathlib.Core.Path.{_≡_, sym, _∙_}
 use borrow.Author.Needs.{needs}
 use Rattle.pass1.proofs.task_at.Statement.{statement}
 use Rattle.pass1.proofs.task_at.Tie as tie
 
+-- ---- the places, seen from the call
+abbrev start : tie.Else1 → tie.Start
+start c = c .before .before .before
+
+abbrev past₁ : tie.Else2 → tie.Else1
+past₁ c = c .before .before
+
+abbrev past₂ : tie.After-lookup → tie.Else2
+past₂ c = c .before .before
+
+-- ---- what the tests gave
+here : (c : tie.Else1) → present (start c .args .spot .entry) ≡ true
+here c = sym (c .before .is-present .ensures) ∙ not-false _ (c .if1 .left)
+
+points : (c : tie.Else2) → let x = start (past₁ c) .args .spot in pointer (x .level) (x .entry) ≡ false
+points c = sym (c .before .points-to-table .ensures) ∙ c .if2 .left
+
+-- ---- the needs
 is-present-requires : tie.Need-is-present-requires
 is-present-requires c κs = search needs
 
 returns : tie.Need-returns
 returns c =
     let a = c .before .before .before .args in
-    told-absent (a .job) (a .ranges .now) (a .spot) (sym (c .before .is-present .ensures) ∙ not-true _ (c .if1 .taken))
+    told-absent (a .plan) (a .ranges .now) (a .spot) (sym (c .before .is-present .ensures) ∙ not-true _ (c .if1 .taken))
 
 points-to-table-requires : tie.Need-points-to-table-requires
 points-to-table-requires c κs = search needs
 
 returns-2 : tie.Need-returns-2
-returns-2 c = ((sym (c .before .before .before .is-present .ensures) ∙ not-false _ (c .before .before .if1 .left)), sym (c .before .points-to-table .ensures) ∙ c .if2 .taken)
+returns-2 c = record { here = here (c .before .before); points = sym (c .before .points-to-table .ensures) ∙ c .if2 .taken }
 
 lookup-requires : tie.Need-lookup-requires
-lookup-requires c κs =
-    let p = c .before .before .before .before .before .before .pre in
-    let j = p .0 .0 in
-    let d = p .1 .1 .low in
-    ((p .1 .0, omega arith), ((omega (arith, j .low), j .some), p .0 .1))
+lookup-requires c κs = let s = start (past₁ (c .before)) in looks-fit (s .args .ranges .now) (s .args .plan) (s .args .spot) (s .pre)
 
 enum-told : tie.Need-enum-told
 enum-told c = search needs
@@ -35,13 +53,17 @@ enum-known-said c = search needs
 
 returns-3 : tie.Need-returns-3
 returns-3 c =
-    let a = c .before .before .before .before .before .before .before .before .before .args in
-    told-stay (a .job) (a .ranges .now) (a .spot) (sym (c .before .before .before .before .before .before .before .is-present .ensures) ∙ not-false _ (c .before .before .before .before .before .before .if1 .left)) (sym (c .before .before .before .before .before .points-to-table .ensures) ∙ c .before .before .before .before .if2 .left) _ (c .before .before .lookup .ensures) (c .enum-told .given .1)
+    let l = c .before .before in
+    let e = past₂ l in
+    let a = start (past₁ e) .args in
+    told-stay (a .plan) (a .ranges .now) (a .spot) (here (past₁ e)) (points e) _ (l .lookup .ensures) (c .enum-told .given .1)
 
 returns-4 : tie.Need-returns-4
 returns-4 c =
-    let a = c .before .before .before .before .before .before .before .before .before .before .args in
-    told-by (a .job) (a .ranges .now) (a .spot) (sym (c .before .before .before .before .before .before .before .before .is-present .ensures) ∙ not-false _ (c .before .before .before .before .before .before .before .if1 .left)) (sym (c .before .before .before .before .before .before .points-to-table .ensures) ∙ c .before .before .before .before .before .if2 .left) _ (c .before .before .before .lookup .ensures) _ (c .before .said .given .1)
+    let l = c .before .before .before in
+    let e = past₂ l in
+    let a = start (past₁ e) .args in
+    told-by (a .plan) (a .ranges .now) (a .spot) (here (past₁ e)) (points e) _ (l .lookup .ensures) _ (c .before .said .given .1)
 
 pub task-at-spec : {M : Type 1} → statement M
 task-at-spec =
