@@ -1,8 +1,7 @@
 -- `pass2::link_table` meets its contract: no table is left, or the next one is linked at the word. No loop.
 -- Assumes nothing.
-use mathlib.Core.Path.{ap, _∙_}
-use Prim.Native.Nat.{ℕ, _+_, _*_, _%_, _^_, _<_}
-use mathlib.Core.Path.{_≡_}
+use mathlib.Core.Path.{_≡_, ap, _∙_}
+use Prim.Native.Nat.{_+_, _*_, _%_, _^_, _<_}
 use Rattle.definitions.specs.Words.{put, wordsOf}
 use Rattle.pass2.proofs.Cases.{free-fits, is-full, is-fresh}
 use borrow.Author.Needs.{needs}
