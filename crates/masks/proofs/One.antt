@@ -3,7 +3,7 @@
 use mathlib.Core.Path.{_≡_, sym, ap₂, _∙_}
 use mathlib.Core.List.{List}
 use Prim.Native.Nat.{ℕ}
-use Rattle.masks.specs.Padded.{Splits}
+use Rattle.masks.specs.Promises.{Splits}
 use Rattle.masks.specs.declared.Split.{Split}
 
 pub one-split : (m : ℕ) (r s : Split) → Splits m r → Splits m s → r ≡ s
