@@ -30,16 +30,5 @@ returns-7 c = sym (late _ (c .if6 .left))
 pub digit-spec : {M : Type 1} → statement M
 digit-spec =
     tie.close
-    (tie.spec
-    returns
-    (search needs)
-    returns-2
-    returns-3
-    (search needs)
-    (search needs)
-    returns-4
-    returns-5
-    (search needs)
-    (search needs)
-    returns-6
-    returns-7)
+    (tie.spec returns (search needs) returns-2 returns-3 (search needs) (search needs) returns-4 returns-5 (search needs)
+    (search needs) returns-6 returns-7)

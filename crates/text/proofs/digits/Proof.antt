@@ -46,17 +46,5 @@ returns-3 c = ends (c .before .loop .inv) (c .loop-test .left)
 pub digits-spec : {M : Type 1} → statement M
 digits-spec =
     tie.close
-    (tie.spec
-    Inv-loop
-    μ-loop
-    loop-holds
-    (search needs)
-    (search needs)
-    returns
-    returns-2
-    (search needs)
-    (search needs)
-    (search needs)
-    (search needs)
-    loop-again
-    returns-3)
+    (tie.spec Inv-loop μ-loop loop-holds (search needs) (search needs) returns returns-2 (search needs) (search needs)
+    (search needs) (search needs) loop-again returns-3)

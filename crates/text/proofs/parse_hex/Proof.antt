@@ -36,18 +36,5 @@ returns-5 c =
 pub parse-hex-spec : {M : Type 1} → statement M
 parse-hex-spec =
     tie.close
-    (tie.spec
-    returns
-    (search needs)
-    returns-2
-    (search needs)
-    (search needs)
-    returns-3
-    (search needs)
-    (search needs)
-    returns-4
-    (search needs)
-    (search needs)
-    (search needs)
-    (search needs)
-    returns-5)
+    (tie.spec returns (search needs) returns-2 (search needs) (search needs) returns-3 (search needs) (search needs) returns-4
+    (search needs) (search needs) (search needs) (search needs) returns-5)

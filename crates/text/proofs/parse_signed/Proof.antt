@@ -64,18 +64,5 @@ returns-5 c =
 pub parse-signed-spec : {M : Type 1} → statement M
 parse-signed-spec =
     tie.close
-    (tie.spec
-    returns
-    (search needs)
-    (search needs)
-    returns-2
-    (search needs)
-    (search needs)
-    (search needs)
-    (search needs)
-    (search needs)
-    (search needs)
-    returns-3
-    returns-4
-    (search needs)
-    returns-5)
+    (tie.spec returns (search needs) (search needs) returns-2 (search needs) (search needs) (search needs) (search needs)
+    (search needs) (search needs) returns-3 returns-4 (search needs) returns-5)
