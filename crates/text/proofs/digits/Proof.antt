@@ -26,7 +26,7 @@ returns : tie.Need-returns Inv-loop μ-loop
 returns c =
     let d = c .before in
     let t = turn d in
-    stops (t .before .loop .inv) (t .loop-test .taken) (d .digit .ensures) (c .if1 .taken)
+    stops (t .before .loop .inv) (t .loop-test .taken) (d .digit .ensures) (omega arith)
 
 returns-2 : tie.Need-returns-2 Inv-loop μ-loop
 returns-2 c =

@@ -52,7 +52,7 @@ returns-4 : tie.Need-returns-4
 returns-4 c =
     let r = c .before .before in
     let p = read r in
-    sym (minus-large (text p) (filled p .if1 .left) (sign p .if2 .left) (value r) (said r) (c .if3 .taken))
+    sym (minus-large (text p) (filled p .if1 .left) (sign p .if2 .left) (value r) (said r) (omega arith))
 
 returns-5 : tie.Need-returns-5
 returns-5 c =
