@@ -1,18 +1,20 @@
 -- Laws of digits and of the values that they make.
 -- Assumes nothing.
-use mathlib.Core.Bool.{Bool, true, false}
-use mathlib.Core.Path.{_≡_, refl}
+use mathlib.Core.Bool.{cond}
+use mathlib.Core.Path.{_≡_, refl, sym}
 use mathlib.Core.List.{List, [], _∷_}
 use mathlib.Core.Option.{none, some}
 use Prim.Native.Nat.{ℕ, _+_, _-_, _*_, _%_, _^_, _≤_, _<_}
 use native.Mathlib.Numerals.{add-one}
+use native.Mathlib.Decide.{decLt}
 use native.Mathlib.Omega.{arith}
 use borrow.Author.Tests.{lt-ltb, le-ltb, le-leb, lt-leb, eq-eqb, ne-eqb}
-use lib.Dec.{ltb}
+use lib.Dec.{eqb}
 use lib.ListN.{length, getD, take, drop, length-drop, drop-of-length-le}
 use lib.Seq.{drop-cons, take-all}
 use Rattle.text.specs.Hex.{digitOf, follow, atMost, digitsOf, hexOf, negated, signedOf}
 
+-- what a byte counts, by where it stands
 module _ (b : ℕ) where
   pub early : b < 48 → digitOf b ≡ 16
   unfolding digitOf
@@ -67,39 +69,51 @@ module _ (b : ℕ) where
 
 -- a digit at place i of a text: what follows it
 module _ (s : List ℕ) (i v : ℕ) (h : i < length s) where
-  pub on : digitOf (getD s i 0) ≤ 15 → follow v (drop i s) ≡ follow (v * 16 + digitOf (getD s i 0)) (drop (i + 1) s)
+  on : digitOf (getD s i 0) ≤ 15 → follow v (drop i s) ≡ follow (v * 16 + digitOf (getD s i 0)) (drop (i + 1) s)
   unfolding follow
   on d = rw (add-one, drop-cons s i 0 h, le-ltb 15 (digitOf (getD s i 0)) d)
 
-  pub off : 15 < digitOf (getD s i 0) → follow v (drop i s) ≡ none
+  off : 15 < digitOf (getD s i 0) → follow v (drop i s) ≡ none
   unfolding follow
   off d = rw (drop-cons s i 0 h, lt-ltb 15 (digitOf (getD s i 0)) d)
 
 -- a value never falls as digits follow it
-onBool : {B : Type 0} (b : Bool) → (b ≡ false → B) → (b ≡ true → B) → B
-onBool false f g = f refl
-onBool true f g = g refl
-
-pub large : (most v : ℕ) (s : List ℕ) → most < v → atMost most (follow v s) ≡ none
+large : (most v : ℕ) (s : List ℕ) → most < v → atMost most (follow v s) ≡ none
 unfolding follow atMost
 large most v [] h = rw (lt-leb v most h)
-large most v (b ∷ s) h = onBool (ltb 15 (digitOf b))
-    (λ e. rw e (large most (v * 16 + digitOf b) s (omega arith)))
-    (λ e. rw e)
+large most v (b ∷ s) h = elim (decLt 15 (digitOf b)) [
+  | yes l ↦ rw (lt-ltb 15 (digitOf b) l)
+  | no n ↦ rw (le-ltb 15 (digitOf b) (omega arith)) (large most (v * 16 + digitOf b) s (omega arith))
+]
 
 -- a loop over a text s that has come to place i with the value v
-module _ (s : List ℕ) (i v : ℕ) (e : follow v (drop i s) ≡ follow 0 s) where
-  pub stops : i < length s → 15 < digitOf (getD s i 0) → digitsOf s ≡ none
-  unfolding digitsOf atMost
-  stops h d = rw (← e, off s i v h d)
+pub record Come (s : List ℕ) (v i : ℕ) : Type 0 where
+  pub within : i ≤ length s
+  pub same : follow v (drop i s) ≡ follow 0 s
+  pub small : v < 2 ^ 64
 
-  pub leaves : i < length s → digitOf (getD s i 0) ≤ 15 → 2 ^ 60 ≤ v → digitsOf s ≡ none
-  unfolding digitsOf
-  leaves h d l = rw (← e, on s i v h d) (large (2 ^ 64 - 1) (v * 16 + digitOf (getD s i 0)) (drop (i + 1) s) (omega arith))
+pub begins : (s : List ℕ) → Come s 0 0
+begins s = record { within = omega arith; same = refl; small = omega arith }
 
-  pub ends : length s ≤ i → v < 2 ^ 64 → digitsOf s ≡ some v
+module _ {s : List ℕ} {v i : ℕ} (c : Come s v i) where
+  -- the digit at place i
+  module _ {d : ℕ} (h : i < length s) (e : d ≡ digitOf (getD s i 0)) where
+    pub stops : 15 < d → none ≡ digitsOf s
+    unfolding digitsOf atMost
+    stops l = rw (← c .same, off s i v h (omega arith))
+
+    pub leaves : d ≤ 15 → 2 ^ 60 ≤ v → none ≡ digitsOf s
+    unfolding digitsOf
+    leaves l b =
+        rw (← c .same, on s i v h (omega arith))
+        (sym (large (2 ^ 64 - 1) (v * 16 + digitOf (getD s i 0)) (drop (i + 1) s) (omega arith)))
+
+    pub again : d ≤ 15 → v < 2 ^ 60 → Come s (v * 16 + d) (i + 1)
+    again l b = record { within = omega arith; same = rw (e, ← on s i v h (omega arith)) (c .same); small = omega arith }
+
+  pub ends : length s ≤ i → some v ≡ digitsOf s
   unfolding digitsOf follow atMost
-  ends h l = rw (← e, drop-of-length-le s h, le-leb v (2 ^ 64 - 1) (omega arith))
+  ends h = rw (← c .same, drop-of-length-le s h, le-leb v (2 ^ 64 - 1) (omega arith))
 
 -- a part that reaches to the end
 pub rest : (s : List ℕ) (k : ℕ) → take (length s - k) (drop k s) ≡ drop k s
@@ -111,46 +125,37 @@ module _ (s : List ℕ) where
   unfolding hexOf
   empty h = rw (eq-eqb (length s) 0 h)
 
-  pub short : 0 < length s → length s ≤ 2 → hexOf s ≡ digitsOf s
+  pub short : (length s ≡ 0 → ⊥) → length s ≤ 2 → hexOf s ≡ digitsOf s
   unfolding hexOf
-  short l h = rw (ne-eqb (length s) 0 (λ e. omega arith), le-leb (length s) 2 h)
+  short n h = rw (ne-eqb (length s) 0 n, le-leb (length s) 2 h)
 
-  pub plain : 2 < length s → (getD s 0 0 ≡ 48 → ⊥) → hexOf s ≡ digitsOf s
-  unfolding hexOf
-  plain l h = rw (ne-eqb (length s) 0 (λ e. omega arith), lt-leb (length s) 2 l, ne-eqb (getD s 0 0) 48 h)
+  module _ (l : 2 < length s) where
+    long : hexOf s ≡ cond (eqb (getD s 0 0) 48) (cond (eqb (getD s 1 0) 120) (digitsOf (drop 2 s)) (digitsOf s)) (digitsOf s)
+    unfolding hexOf
+    long = rw (ne-eqb (length s) 0 (λ e. omega arith), lt-leb (length s) 2 l)
 
-  pub zeroed : 2 < length s → getD s 0 0 ≡ 48 → (getD s 1 0 ≡ 120 → ⊥) → hexOf s ≡ digitsOf s
-  unfolding hexOf
-  zeroed l z h =
-      rw (
-        ne-eqb (length s) 0 (λ e. omega arith),
-        lt-leb (length s) 2 l,
-        eq-eqb (getD s 0 0) 48 z,
-        ne-eqb (getD s 1 0) 120 h,
-      )
+    pub plain : (getD s 0 0 ≡ 48 → ⊥) → hexOf s ≡ digitsOf s
+    plain h = rw (long, ne-eqb (getD s 0 0) 48 h)
 
-  pub prefixed : 2 < length s → getD s 0 0 ≡ 48 → getD s 1 0 ≡ 120 → hexOf s ≡ digitsOf (drop 2 s)
-  unfolding hexOf
-  prefixed l z h =
-      rw (
-        ne-eqb (length s) 0 (λ e. omega arith),
-        lt-leb (length s) 2 l,
-        eq-eqb (getD s 0 0) 48 z,
-        eq-eqb (getD s 1 0) 120 h,
-      )
+    pub zeroed : getD s 0 0 ≡ 48 → (getD s 1 0 ≡ 120 → ⊥) → hexOf s ≡ digitsOf s
+    zeroed z h = rw (long, eq-eqb (getD s 0 0) 48 z, ne-eqb (getD s 1 0) 120 h)
 
+    pub prefixed : getD s 0 0 ≡ 48 → getD s 1 0 ≡ 120 → hexOf s ≡ digitsOf (drop 2 s)
+    prefixed z h = rw (long, eq-eqb (getD s 0 0) 48 z, eq-eqb (getD s 1 0) 120 h)
+
+  -- and of one that may have a sign
   pub no-sign : length s ≡ 0 → signedOf s ≡ none
   unfolding signedOf
   no-sign h = rw (eq-eqb (length s) 0 h)
 
-  pub unsigned : 0 < length s → (getD s 0 0 ≡ 45 → ⊥) → signedOf s ≡ hexOf s
+  pub unsigned : (length s ≡ 0 → ⊥) → (getD s 0 0 ≡ 45 → ⊥) → signedOf s ≡ hexOf s
   unfolding signedOf
-  unsigned l h = rw (ne-eqb (length s) 0 (λ e. omega arith), ne-eqb (getD s 0 0) 45 h)
+  unsigned n h = rw (ne-eqb (length s) 0 n, ne-eqb (getD s 0 0) 45 h)
 
-  module _ (l : 0 < length s) (h : getD s 0 0 ≡ 45) where
+  module _ (n : length s ≡ 0 → ⊥) (h : getD s 0 0 ≡ 45) where
     minus : signedOf s ≡ negated (atMost (2 ^ 63) (hexOf (drop 1 s)))
     unfolding signedOf
-    minus = rw (ne-eqb (length s) 0 (λ e. omega arith), eq-eqb (getD s 0 0) 45 h)
+    minus = rw (ne-eqb (length s) 0 n, eq-eqb (getD s 0 0) 45 h)
 
     pub minus-bad : none ≡ hexOf (drop 1 s) → signedOf s ≡ none
     unfolding atMost negated

@@ -51,6 +51,7 @@ signedOf s =
     cond (eqb (length s) 0) none
     (cond (eqb (getD s 0 0) 45) (negated (atMost (2 ^ 63) (hexOf (drop 1 s)))) (hexOf s))
 
+-- the code's answer as a number or nothing
 abbrev pub numberOf : Number → Option ℕ
 numberOf (Value v) = some v
 numberOf Bad = none

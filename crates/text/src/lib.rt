@@ -2,11 +2,13 @@
 ghost use mathlib.Core.Path.{_≡_};
 ghost use Rattle.text.specs.Hex.{digitOf, digitsOf, hexOf, signedOf, numberOf};
 
+// What a text says: a number below 2^64, or none.
 pub enum Number {
     Value(u64),
     Bad,
 }
 
+// A byte as a word.
 fn wide(x: u8) -> u64
     ensures { λ r. ⌜ r ≡ x ⌝ }
 {

@@ -1,58 +1,34 @@
+-- `text::digit` meets its contract: six tests in a row, in `digitOf`'s order; each answer cites its law. No loop.
+-- Assumes nothing.
+use mathlib.Core.Path.{sym, _∙_}
 use borrow.Author.Needs.{needs}
-use native.Mathlib.Omega.{arith}
 use Rattle.text.proofs.Values.{early, decimal, between, upper, middle, lower, late}
 use Rattle.text.proofs.digit.Statement.{statement}
 use Rattle.text.proofs.digit.Tie as tie
 
 returns : tie.Need-returns
-returns c = omega (arith, early (c .before .args .b) (omega arith))
-
-wide-requires : tie.Need-wide-requires
-wide-requires c κs = search needs
+returns c = sym (early _ (c .if1 .taken))
 
 returns-2 : tie.Need-returns-2
-returns-2 c = omega (arith, decimal (c .before .before .before .args .b) (omega arith) (omega arith))
+returns-2 c = c .wide .ensures ∙ sym (decimal _ (c .before .before .if1 .left) (c .before .if2 .taken))
 
 returns-3 : tie.Need-returns-3
-returns-3 c = omega (arith, between (c .before .before .before .args .b) (omega arith) (omega arith))
-
-sub-wide : tie.Need-sub-wide
-sub-wide c = search needs
-
-wide-requires-2 : tie.Need-wide-requires-2
-wide-requires-2 c κs = search needs
+returns-3 c = sym (between _ (c .before .if2 .left) (c .if3 .taken))
 
 returns-4 : tie.Need-returns-4
-returns-4 c = omega (arith, upper (c .before .before .before .before .before .args .b) (omega arith) (omega arith))
+returns-4 c = c .wide2 .ensures ∙ sym (upper _ (c .before .before .if3 .left) (c .before .if4 .taken))
 
 returns-5 : tie.Need-returns-5
-returns-5 c = omega (arith, middle (c .before .before .before .before .before .args .b) (omega arith) (omega arith))
-
-sub-wide-2 : tie.Need-sub-wide-2
-sub-wide-2 c = search needs
-
-wide-requires-3 : tie.Need-wide-requires-3
-wide-requires-3 c κs = search needs
+returns-5 c = sym (middle _ (c .before .if4 .left) (c .if5 .taken))
 
 returns-6 : tie.Need-returns-6
-returns-6 c = omega (arith, lower (c .before .before .before .before .before .before .before .args .b) (omega arith) (omega arith))
+returns-6 c = c .wide3 .ensures ∙ sym (lower _ (c .before .before .if5 .left) (c .before .if6 .taken))
 
 returns-7 : tie.Need-returns-7
-returns-7 c = omega (arith, late (c .before .before .before .before .before .before .args .b) (omega arith))
+returns-7 c = sym (late _ (c .if6 .left))
 
 pub digit-spec : {M : Type 1} → statement M
 digit-spec =
     tie.close
-    (tie.spec
-    returns
-    wide-requires
-    returns-2
-    returns-3
-    sub-wide
-    wide-requires-2
-    returns-4
-    returns-5
-    sub-wide-2
-    wide-requires-3
-    returns-6
-    returns-7)
+    (tie.spec returns (search needs) returns-2 returns-3 (search needs) (search needs) returns-4 returns-5 (search needs)
+    (search needs) returns-6 returns-7)

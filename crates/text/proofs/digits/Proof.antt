@@ -1,83 +1,50 @@
-use Prim.Native.Nat.{_≤_, _<_, _-_, _^_}
+-- `text::digits` meets its contract. One loop over the text.
+-- Invariant: `Come`, the value so far, followed by the rest, is what the whole says. Measure: what is left of the text.
+-- Assumes nothing.
+use Prim.Native.Nat.{_-_}
 use borrow.Author.Needs.{needs}
-use mathlib.Core.Path.{_≡_, sym}
 use native.Mathlib.Omega.{arith}
-use lib.ListN.{length, drop, getD}
-use Rattle.text.specs.Hex.{digitOf, follow}
-use Rattle.text.proofs.Values.{on, stops, leaves, ends}
+use lib.ListN.{length}
+use Rattle.text.proofs.Values.{Come, begins, stops, leaves, again, ends}
 use Rattle.text.proofs.digits.Statement.{statement}
 use Rattle.text.proofs.digits.Tie as tie
 
 abbrev Inv-loop : tie.InvT-loop
-Inv-loop s v₀ i₀ v i = (i ≤ length s) × (follow v (drop i s) ≡ follow 0 s) × (v < 2 ^ 64)
+Inv-loop s v₀ i₀ v i = Come s v i
 
 abbrev μ-loop : tie.MeasureT-loop
 μ-loop s v₀ i₀ v i = length s - i
 
+-- the loop's test, seen from the digit read
+abbrev turn : tie.After-digit Inv-loop μ-loop → tie.In-loop Inv-loop μ-loop
+turn d = d .before .before
+
 loop-holds : tie.Need-loop-holds Inv-loop μ-loop
-loop-holds c = search needs
-
-shared-slice-read-digit : tie.Need-shared-slice-read-digit Inv-loop μ-loop
-shared-slice-read-digit c = search needs
-
-digit-requires : tie.Need-digit-requires Inv-loop μ-loop
-digit-requires c κs = search needs
+loop-holds c = begins _
 
 returns : tie.Need-returns Inv-loop μ-loop
 returns c =
-    let l = c .before .before .before .before .loop in
-    let s = c .before .before .before .before .before .before .args .s .now in
-    let h : l .i < length s = omega arith in
-    let d : 15 < digitOf (getD s (l .i) 0) = omega arith in
-    sym (stops s (l .i) (l .v) (l .inv .1) h d)
+    let d = c .before in
+    let t = turn d in
+    stops (t .before .loop .inv) (t .loop-test .taken) (d .digit .ensures) (omega arith)
 
 returns-2 : tie.Need-returns-2 Inv-loop μ-loop
 returns-2 c =
-    let l = c .before .before .before .before .before .loop in
-    let s = c .before .before .before .before .before .before .before .args .s .now in
-    let h : l .i < length s = omega arith in
-    let d : digitOf (getD s (l .i) 0) ≤ 15 = omega arith in
-    sym (leaves s (l .i) (l .v) (l .inv .1) h d (omega arith))
-
-mul-v : tie.Need-mul-v Inv-loop μ-loop
-mul-v c = search needs
-
-add-v : tie.Need-add-v Inv-loop μ-loop
-add-v c = search needs
-
-add-i : tie.Need-add-i Inv-loop μ-loop
-add-i c = search needs
-
-loop-less : tie.Need-loop-less Inv-loop μ-loop
-loop-less c = search needs
+    let d = c .before .before in
+    let t = turn d in
+    leaves (t .before .loop .inv) (t .loop-test .taken) (d .digit .ensures) (c .before .if1 .left) (omega arith)
 
 loop-again : tie.Need-loop-again Inv-loop μ-loop
 loop-again c =
-    let l = c .before .before .before .before .before .loop in
-    let s = c .before .before .before .before .before .before .before .args .s .now in
-    let h : l .i < length s = omega arith in
-    let d : digitOf (getD s (l .i) 0) ≤ 15 = omega arith in
-    (omega arith, rw (c .before .before .digit .ensures, ← on s (l .i) (l .v) h d) (l .inv .1), omega arith)
+    let d = c .before .before in
+    let t = turn d in
+    again (t .before .loop .inv) (t .loop-test .taken) (d .digit .ensures) (c .before .if1 .left) (omega arith)
 
 returns-3 : tie.Need-returns-3 Inv-loop μ-loop
-returns-3 c =
-    let l = c .before .loop in
-    sym (ends (c .before .before .before .args .s .now) (l .i) (l .v) (l .inv .1) (omega arith) (omega arith))
+returns-3 c = ends (c .before .loop .inv) (c .loop-test .left)
 
 pub digits-spec : {M : Type 1} → statement M
 digits-spec =
     tie.close
-    (tie.spec
-    Inv-loop
-    μ-loop
-    loop-holds
-    shared-slice-read-digit
-    digit-requires
-    returns
-    returns-2
-    mul-v
-    add-v
-    add-i
-    loop-less
-    loop-again
-    returns-3)
+    (tie.spec Inv-loop μ-loop loop-holds (search needs) (search needs) returns returns-2 (search needs) (search needs)
+    (search needs) (search needs) loop-again returns-3)

@@ -1,70 +1,40 @@
+-- `text::parse_hex` meets its contract: four tests in a row, in `hexOf`'s order; each answer cites its law. No loop.
+-- Assumes nothing.
 use mathlib.Core.Path.{sym, ap, _∙_}
 use borrow.Author.Needs.{needs}
-use native.Mathlib.Omega.{arith}
 use Rattle.text.specs.Hex.{digitsOf}
 use Rattle.text.proofs.Values.{rest, empty, short, plain, zeroed, prefixed}
 use Rattle.text.proofs.parse_hex.Statement.{statement}
 use Rattle.text.proofs.parse_hex.Tie as tie
 
-returns : tie.Need-returns
-returns c = sym (empty (c .before .before .args .s .now) (omega arith))
+-- a text longer than 2, seen from past its first character
+abbrev longer : tie.Else3 → tie.Else2
+longer c = c .before .before
 
-digits-requires : tie.Need-digits-requires
-digits-requires c κs = search needs
+returns : tie.Need-returns
+returns c = sym (empty _ (c .if1 .taken))
 
 returns-2 : tie.Need-returns-2
-returns-2 c = c .digits .ensures ∙ sym (short (c .before .before .before .before .args .s .now) (omega arith) (omega arith))
-
-shared-slice-read-if3 : tie.Need-shared-slice-read-if3
-shared-slice-read-if3 c = search needs
-
-digits-requires-2 : tie.Need-digits-requires-2
-digits-requires-2 c κs = search needs
+returns-2 c = c .digits .ensures ∙ sym (short _ (c .before .before .if1 .left) (c .before .if2 .taken))
 
 returns-3 : tie.Need-returns-3
-returns-3 c = c .digits2 .ensures ∙ sym (plain (c .before .before .before .before .before .before .args .s .now) (omega arith) (c .before .if3 .taken))
-
-shared-slice-read-if4 : tie.Need-shared-slice-read-if4
-shared-slice-read-if4 c = search needs
-
-digits-requires-3 : tie.Need-digits-requires-3
-digits-requires-3 c κs = search needs
+returns-3 c = c .digits2 .ensures ∙ sym (plain _ (c .before .before .before .if2 .left) (c .before .if3 .taken))
 
 returns-4 : tie.Need-returns-4
-returns-4 c = c .digits3 .ensures ∙ sym (zeroed (c .before .before .before .before .before .before .before .before .args .s .now) (omega arith) (omega arith) (c .before .if4 .taken))
-
-sub-digits : tie.Need-sub-digits
-sub-digits c = search needs
-
-part-digits-start : tie.Need-part-digits-start
-part-digits-start c = search needs
-
-part-digits-end : tie.Need-part-digits-end
-part-digits-end c = search needs
-
-digits-requires-4 : tie.Need-digits-requires-4
-digits-requires-4 c κs = search needs
+returns-4 c =
+    let e₃ = c .before .before .before in
+    c .digits3 .ensures ∙ sym (zeroed _ (longer e₃ .if2 .left) (e₃ .if3 .left) (c .before .if4 .taken))
 
 returns-5 : tie.Need-returns-5
 returns-5 c =
-    let s = c .before .before .before .before .before .before .before .before .before .args .s .now in
-    c .digits4 .ensures ∙ ap digitsOf (rest s 2) ∙ sym (prefixed s (omega arith) (omega arith) (omega arith))
+    let e₄ = c .before .before in
+    let e₃ = e₄ .before .before in
+    let e₂ = longer e₃ in
+    let s = e₂ .before .before .before .args .s .now in
+    c .digits4 .ensures ∙ ap digitsOf (rest s 2) ∙ sym (prefixed s (e₂ .if2 .left) (e₃ .if3 .left) (e₄ .if4 .left))
 
 pub parse-hex-spec : {M : Type 1} → statement M
 parse-hex-spec =
     tie.close
-    (tie.spec
-    returns
-    digits-requires
-    returns-2
-    shared-slice-read-if3
-    digits-requires-2
-    returns-3
-    shared-slice-read-if4
-    digits-requires-3
-    returns-4
-    sub-digits
-    part-digits-start
-    part-digits-end
-    digits-requires-4
-    returns-5)
+    (tie.spec returns (search needs) returns-2 (search needs) (search needs) returns-3 (search needs) (search needs) returns-4
+    (search needs) (search needs) (search needs) (search needs) returns-5)

@@ -1,3 +1,6 @@
+-- `words::clear` meets its contract. One loop. Invariant: `Clearing`, zeros from place `from` up to place i, the rest as it was.
+-- Measure: what is left of the length. The three laws of `Clearing` are the loop's begin, turn and end.
+-- Assumes nothing.
 use Rattle.definitions.proofs.Clearing.{Clearing, clearing-begins, clearing-more, clearing-ends}
 use lib.ListN.{length, length-set}
 use Prim.Native.Nat.{_-_}
@@ -15,20 +18,11 @@ abbrev μ-loop : tie.MeasureT-loop
 loop-holds : tie.Need-loop-holds Inv-loop μ-loop
 loop-holds c = clearing-begins _ _
 
-slice-write-buf : tie.Need-slice-write-buf Inv-loop μ-loop
-slice-write-buf c = search needs
-
-add-i : tie.Need-add-i Inv-loop μ-loop
-add-i c = search needs
-
 loop-less : tie.Need-loop-less Inv-loop μ-loop
 loop-less c = simp length-set (omega arith)
 
 loop-again : tie.Need-loop-again Inv-loop μ-loop
 loop-again c = clearing-more _ _ _ _ (c .before .loop .inv) (search needs)
-
-same-length : tie.Need-same-length Inv-loop μ-loop
-same-length c = search needs
 
 returns : tie.Need-returns Inv-loop μ-loop
 returns c = clearing-ends _ _ _ _ (c .before .loop .inv) (search needs)
@@ -36,13 +30,4 @@ returns c = clearing-ends _ _ _ _ (c .before .loop .inv) (search needs)
 pub clear-spec : {M : Type 1} → statement M
 clear-spec =
     tie.close
-    (tie.spec
-    Inv-loop
-    μ-loop
-    loop-holds
-    slice-write-buf
-    add-i
-    loop-less
-    loop-again
-    same-length
-    returns)
+    (tie.spec Inv-loop μ-loop loop-holds (search needs) (search needs) loop-less loop-again (search needs) returns)

@@ -1,3 +1,6 @@
+-- `words::copy` meets its contract. One loop. Invariant: the first i bytes of src are pasted, and the length is as it was.
+-- Measure: what is left of src.
+-- Assumes nothing.
 use lib.Seq.{paste, paste-zero, paste-suc}
 use lib.ListN.{length, length-set, getD, set}
 use native.Mathlib.Numerals.{add-one}
@@ -15,57 +18,33 @@ Inv-loop buf₀ at src i₀ buf i = (i ≤ length src) × (length buf ≡ length
 abbrev μ-loop : tie.MeasureT-loop
 μ-loop buf₀ at src i₀ buf i = length src - i
 
+-- buf at the start with n bytes of src pasted
+abbrev pasted : tie.Start Inv-loop μ-loop → ℕ → List ℕ
+pasted s n = paste (s .args .buf .now) (s .args .at) (s .args .src .now) n
+
 loop-holds : tie.Need-loop-holds Inv-loop μ-loop
-loop-holds c = (search needs, search needs, paste-zero (c .args .buf .now) (c .args .at) (c .args .src .now))
-
-shared-slice-read-buf : tie.Need-shared-slice-read-buf Inv-loop μ-loop
-shared-slice-read-buf c = search needs
-
-add-buf : tie.Need-add-buf Inv-loop μ-loop
-add-buf c = search needs
-
-slice-write-buf : tie.Need-slice-write-buf Inv-loop μ-loop
-slice-write-buf c = search needs
-
-add-i : tie.Need-add-i Inv-loop μ-loop
-add-i c = search needs
-
-loop-less : tie.Need-loop-less Inv-loop μ-loop
-loop-less c = search needs
+loop-holds c = (search needs, search needs, paste-zero _ (c .args .at) (c .args .src .now))
 
 loop-again : tie.Need-loop-again Inv-loop μ-loop
 loop-again c =
-    let s = c .before .before .before in
-    let l = c .before .before .loop in (
+    let h = c .before .before in
+    let a = h .before .args in
+    let i = h .loop .i in (
       search needs,
       simp length-set (search needs),
-      ap (λ (xs : List ℕ). set xs (s .args .at + l .i) (getD (s .args .src .now) (l .i) 0)) (l .inv .2)
-          ∙ paste-suc (s .args .buf .now) (s .args .at) (s .args .src .now) (l .i) 0 (omega arith) (omega arith)
-          ∙ ap (paste (s .args .buf .now) (s .args .at) (s .args .src .now)) (sym (add-one (l .i))),
+      ap (λ (xs : List ℕ). set xs (a .at + i) (getD (a .src .now) i 0)) (h .loop .inv .2)
+          ∙ paste-suc (a .buf .now) (a .at) (a .src .now) i 0 (omega arith) (omega arith)
+          ∙ ap (pasted (h .before)) (sym (add-one i)),
     )
-
-same-length : tie.Need-same-length Inv-loop μ-loop
-same-length c = search needs
 
 returns : tie.Need-returns Inv-loop μ-loop
 returns c =
-    let s = c .before .before in
-    let l = c .before .loop in
-    let e : l .i ≡ length (s .args .src .now) = omega arith in
-    l .inv .2 ∙ ap (paste (s .args .buf .now) (s .args .at) (s .args .src .now)) e
+    let h = c .before in
+    let e : h .loop .i ≡ length (h .before .args .src .now) = omega arith in
+    h .loop .inv .2 ∙ ap (pasted (h .before)) e
 
 pub copy-spec : {M : Type 1} → statement M
 copy-spec =
     tie.close
-    (tie.spec
-    Inv-loop
-    μ-loop
-    loop-holds
-    shared-slice-read-buf
-    add-buf
-    slice-write-buf
-    add-i
-    loop-less
-    loop-again
-    same-length
-    returns)
+    (tie.spec Inv-loop μ-loop loop-holds (search needs) (search needs) (search needs) (search needs) (search needs) loop-again
+    (search needs) returns)
