@@ -1,187 +1,234 @@
--- An entry with what is below it, the entries of a table, and the beginning.
+-- A pointer with what is below it, the entries of a table one by one, and the beginning.
 -- Assumes nothing.
 use mathlib.Core.Path.{_≡_, refl, sym, ap, ap₂, subst, _∙_}
 use mathlib.Core.List.{List}
 use Prim.Native.Nat.{ℕ, suc, _+_, _-_, _*_, _/_, _%_, _^_, _≤_, _<_}
 use native.Mathlib.Omega.{arith}
-use native.Mathlib.Nat.{suc-mul, mul-le-mul-right, div-add-mod'}
+use native.Mathlib.Nat.{suc-mul, mul-le-mul-right, div-add-mod', zero-mod}
 use lib.Arith.{digits-mod}
-use Rattle.definitions.proofs.Geometry.{span-pos}
 use lib.ListN.{length}
-use Rattle.definitions.specs.Words.{Mem, Tables, slot, mark, noTables}
+use Rattle.definitions.specs.Words.{Mem, Tables, slot, mark, noTables, wordsOf}
 use Rattle.definitions.specs.Geometry.{span}
-use Rattle.definitions.specs.Step.{Step, andThen, times}
-use Rattle.definitions.specs.Pass1.{Plan, State, Act, keep, moveAct, perform, visit, walkTable}
+use Rattle.definitions.specs.Step.{Step, andThen, times, stopped}
+use Rattle.definitions.specs.Pass1.{State, Act, keep, moveAct, perform, visit, walkTable}
+use Rattle.definitions.specs.Pass1 as D
+use Rattle.definitions.proofs.Geometry.{SoundGeometry, span-pos, span-suc}
 use Rattle.definitions.specs.declared.Moved.{Moved}
+use Rattle.definitions.specs.declared.Refusal.{Refusal}
+use Rattle.definitions.specs.declared.paging.Geometry.{Geometry}
 use Rattle.moved.specs.View.{Held, Empty}
+use Rattle.moved.specs.declared.Store.{Store}
 use Rattle.moved.proofs.Leaves.{empty-leaves}
 use Rattle.reached.specs.Held.{setOf}
-use Rattle.pass1.specs.declared.Job.{Job}
+use Rattle.pass1.specs.declared.Plan.{Plan}
 use Rattle.pass1.specs.declared.Walk.{Walk}
 use Rattle.pass1.specs.declared.Spot.{Spot}
+use Rattle.pass1.specs.declared.Departure.the-variants.{Stored, Refused}
 use Rattle.pass1.specs.declared.Turn.{Turn}
 use Rattle.pass1.specs.declared.Turn.the-variants.{Down, Done}
 use Rattle.pass1.specs.declared.Opened.{Opened}
-use Rattle.pass1.specs.Walks.{spotIn, actAt, view, outcome, planOf, Told, Moves, Opens, opensTo, Lies, Begins, Visits, Walked, First}
-use Rattle.pass1.specs.declared.Task.{Task}
 use Rattle.pass1.specs.declared.Task.the-variants.{Skip, Leaf}
+use Rattle.pass1.specs.Walks.{spotIn, actAt, view, outcome, Runs, refusing, planOf, performed, Told, Moves, Opens, opensTo, Lies, AtHand, Visits, Walked, First}
 use Rattle.pass1.proofs.Moving.{outcome-go, outcome-stop}
 
--- ---- an entry and what is below
-module _ (j : Job) (ws : List ℕ) (x : Spot) (m : Mem) (xs : List ℕ) (w : Walk) (held : Held xs (w .store)) where
-  abbrev downOf : ℕ → State → Step State
-  downOf = walkTable (planOf j ws (length xs)) (x .level) (x .va)
+-- ---- where entries lie
 
-  module _ (task : Task) (told : Told j ws x task) where
-    pub visits-skip : task ≡ Skip → w .number ≡ 0 → Visits j ws x m xs w m xs w
-    unfolding perform
-    visits-skip q runs =
-        let kept : actAt (planOf j ws (length xs)) x ≡ keep = subst (Told j ws x) q told (length xs) in
-        record {
-          step = outcome-go m xs w runs ∙ sym (ap (perform (length xs / 3) downOf (x .level) (x .va) (x .at) (view m xs w)) kept);
-          held = held;
-          long = refl;
-        }
+-- one level down and back up
+up : (l : ℕ) → 1 ≤ l → suc (l - 1) ≡ l
+up l h = omega arith
 
-    pub visits-leaf : (o : ℕ) → task ≡ Leaf o → (m′ : Mem) (ys : List ℕ) (r : Walk) → Moves x o m xs w m′ ys r → Visits j ws x m xs w m′ ys r
-    visits-leaf o q m′ ys r d =
-        let p : Plan = planOf j ws (length xs) in
-        let moves : actAt p x ≡ moveAct p (x .level) (x .va) (x .entry) o = subst (Told j ws x) q told (length xs) in
-        record {
-          step = d .step p refl downOf ∙ sym (ap (perform (length xs / 3) downOf (x .level) (x .va) (x .at) (view m xs w)) moves);
-          held = d .held;
-          long = d .long;
-        }
-
-  module _ (m′ : Mem) (o : Opened) (opens : Opens j x m w m′ o) where
-    pub opened-held : Held xs (o .state .store)
-    opened-held = subst (Held xs) (sym (opens .store)) held
-
-    pub visits-done : o .turn ≡ Done → Visits j ws x m xs w m′ xs (o .state)
-    visits-done q =
-        record {
-          step = ap (λ (u : Turn). opensTo downOf u m′ xs (o .state)) (sym q) ∙ opens .step ws xs downOf;
-          held = opened-held;
-          long = refl;
-        }
-
-    pub visits-down : (t : ℕ) → o .turn ≡ Down t → 1 ≤ x .level → (m″ : Mem) (zs : List ℕ) (r : Walk) → Walked j ws t (x .level - 1) (x .va) m′ xs (o .state) m″ zs r
-        → Visits j ws x m xs w m″ zs r
-    visits-down t q h m″ zs r d =
-        record {
-          step = d .step
-              ∙ ap (λ (l : ℕ). walkTable (planOf j ws (length xs)) l (x .va) t (view m′ xs (o .state))) (up (x .level) h)
-              ∙ ap (λ (u : Turn). opensTo downOf u m′ xs (o .state)) (sym q) ∙ opens .step ws xs downOf;
-          held = d .held;
-          long = d .long;
-        }
-      where
-        up : (l : ℕ) → 1 ≤ l → suc (l - 1) ≡ l
-        up l h = omega arith
-
-pub lies-down : (l a : ℕ) → 1 ≤ l → Lies l a → Lies (suc (l - 1)) a
-lies-down l a h d = subst (λ (k : ℕ). Lies k a) (up l h) d
-  where
-    up : (l : ℕ) → 1 ≤ l → l ≡ suc (l - 1)
-    up l h = omega arith
+pub lies-down : (g : Geometry) (l a : ℕ) → 1 ≤ l → Lies g l a → Lies g (suc (l - 1)) a
+lies-down g l a h d = subst (λ (k : ℕ). Lies g k a) (sym (up l h)) d
 
 -- an entry's span lies within its table's
 pub inner : (i n : ℕ) → i < 512 → i * n + n ≤ 512 * n
 inner i n h = subst (λ (k : ℕ). k ≤ 512 * n) (suc-mul i n) (mul-le-mul-right n h)
 
-pub lies-at : (l a i : ℕ) → Lies (suc l) a → i < 512 → Lies l (a + i * span l)
-unfolding span
-lies-at l a i d h =
+lies-at : (g : Geometry) (l a i : ℕ) → Lies g (suc l) a → i < 512 → Lies g l (a + i * span l)
+lies-at g l a i d h =
     let q : ℕ = a / (512 * span l) in
     let z : q * (512 * span l) + a % (512 * span l) ≡ a = div-add-mod' a (512 * span l) in
-    let w : a % (512 * span l) ≡ 0 = d .whole in
-    let low : a + 512 * span l ≤ 2 ^ 48 = d .low in
+    let w : a % (512 * span l) ≡ 0 = ap (λ (n : ℕ). a % n) (sym (span-suc l)) ∙ d .whole in
     let e : a + i * span l ≡ (q * 512 + i) * span l + 0 = omega arith in
     record {
       whole = ap (λ (n : ℕ). n % span l) e ∙ digits-mod (q * 512 + i) (span-pos l);
-      low = omega (arith, inner i (span l) h);
+      low = omega (arith, inner i (span l) h, d .low, span-suc l);
     }
 
--- ---- the entries of a table
-module _ (j : Job) (ws : List ℕ) (n l a t : ℕ) where
-  abbrev pub turnOf : ℕ → State → Step State
-  turnOf = λ i s. visit (planOf j ws n) (λ b t′ s″. walkTable (planOf j ws n) l b t′ s″) l a t i s
+-- with the size as the code has it
+pub lies-with : (g : Geometry) (l a i s : ℕ) → s ≡ span l → Lies g (suc l) a → i < 512 → Lies g l (a + i * s)
+lies-with g l a i s e d h = subst (λ (n : ℕ). Lies g l (a + i * n)) (sym e) (lies-at g l a i d h)
 
-  pub walk-begins : (s : State) → times 512 turnOf 0 s ≡ walkTable (planOf j ws n) (suc l) a t s
-  unfolding walkTable
-  walk-begins s = refl
+-- no sum over a table's addresses wraps
+pub lies-low : (g : Geometry) (l a : ℕ) → SoundGeometry g → Lies g (suc l) a → a + 512 * span l ≤ 2 ^ 63
+lies-low g l a s d = omega (arith, d .low, span-suc l, s .word)
 
-  -- entry i, where the memory is m
-  abbrev pub entryAt : Mem → ℕ → Spot
-  entryAt m i = spotIn m (slot t i) l (a + i * span l)
-
-  -- an entry that stays
-  pub walk-skips : (m : Mem) (xs : List ℕ) (w : Walk) (i : ℕ) (x : Spot) → x ≡ entryAt m i → Told j ws x Skip
-      → (c d i′ : ℕ) → d ≡ suc c → i′ ≡ suc i → (z : Step State) → times d turnOf i (view m xs w) ≡ z → times c turnOf i′ (view m xs w) ≡ z
-  unfolding times andThen visit perform
-  walk-skips m xs w i x at told c d i′ ed ei z q =
-      let s : State = view m xs w in
-      let kept : actAt (planOf j ws n) (entryAt m i) ≡ keep = ap (actAt (planOf j ws n)) (sym at) ∙ told n in
-      ap (λ (y : ℕ). times c turnOf y s) ei
-      ∙ ap (λ (y : Act). andThen (perform (n / 3) (walkTable (planOf j ws n) l (a + i * span l)) l (a + i * span l) (slot t i) s y) (λ s′. times c turnOf (suc i) s′)) (sym kept)
-      ∙ ap (λ (y : ℕ). times y turnOf i s) (sym ed) ∙ q
-
-  module _ (m : Mem) (xs : List ℕ) (w : Walk) (long : length xs ≡ n) (i : ℕ) (x : Spot) (at : x ≡ entryAt m i)
-      (m′ : Mem) (ys : List ℕ) (r : Walk) (visits : Visits j ws x m xs w m′ ys r) where
-    turn-is : outcome m′ ys r ≡ turnOf i (view m xs w)
-    unfolding visit
-    turn-is =
-        visits .step
-        ∙ ap (λ (c : ℕ). perform (c / 3) (walkTable (planOf j ws c) (x .level) (x .va)) (x .level) (x .va) (x .at) (view m xs w) (actAt (planOf j ws c) x)) long
-        ∙ ap (λ (y : Spot). perform (n / 3) (walkTable (planOf j ws n) (y .level) (y .va)) (y .level) (y .va) (y .at) (view m xs w) (actAt (planOf j ws n) y)) at
-
-    pub walk-on : (c d i′ : ℕ) → d ≡ suc c → i′ ≡ suc i → r .number ≡ 0 → (z : Step State) → times d turnOf i (view m xs w) ≡ z → times c turnOf i′ (view m′ ys r) ≡ z
-    unfolding times andThen
-    walk-on c d i′ ed ei runs z h =
-        ap (λ (v : ℕ). times c turnOf v (view m′ ys r)) ei
-        ∙ ap (λ (v : Step State). andThen v (λ s′. times c turnOf (suc i) s′)) (sym (outcome-go m′ ys r runs) ∙ turn-is)
-        ∙ ap (λ (v : ℕ). times v turnOf i (view m xs w)) (sym ed) ∙ h
-
-    pub walk-stops : (c d : ℕ) → d ≡ suc c → (r .number ≡ 0 → ⊥) → (z : Step State) → times d turnOf i (view m xs w) ≡ z → outcome m′ ys r ≡ z
-    unfolding times andThen
-    walk-stops c d ed f z h =
-        outcome-stop m′ ys r f
-        ∙ ap (λ (v : Step State). andThen v (λ s′. times c turnOf (suc i) s′)) (sym (outcome-stop m′ ys r f) ∙ turn-is)
-        ∙ ap (λ (v : ℕ). times v turnOf i (view m xs w)) (sym ed) ∙ h
-
-  pub walk-over : (m : Mem) (xs : List ℕ) (w : Walk) (d i : ℕ) → d ≡ 0 → w .number ≡ 0 → (z : Step State) → times d turnOf i (view m xs w) ≡ z → outcome m xs w ≡ z
-  unfolding times
-  walk-over m xs w d i e runs z h = outcome-go m xs w runs ∙ ap (λ (v : ℕ). times v turnOf i (view m xs w)) (sym e) ∙ h
-
-pub lies-with : (l a i s : ℕ) → s ≡ span l → Lies (suc l) a → i < 512 → Lies l (a + i * s)
-lies-with l a i s e d h = subst (λ (n : ℕ). Lies l (a + i * n)) (sym e) (lies-at l a i d h)
+pub lies-root : (g : Geometry) → Lies g (suc (g .top)) 0
+lies-root g = record { whole = zero-mod (span (suc (g .top))); low = omega arith }
 
 -- what was read at a word is at hand
-module _ (x : Spot) (m : Mem) (k l a : ℕ) (at : x ≡ spotIn m k l a) (level : l < 4) where
-  pub spot-lies : Lies l a → (x .level < 4) × Lies (x .level) (x .va)
-  spot-lies d = subst (λ (y : Spot). (y .level < 4) × Lies (y .level) (y .va)) (sym at) (level, d)
+pub at-hand : (n : ℕ) (g : Geometry) (x : Spot) (m : Mem) (k l a : ℕ) → x ≡ spotIn m k l a → 8 * k + 8 ≤ n → l ≤ g .top → Lies g l a → AtHand n g x
+at-hand n g x m k l a at f h d = subst (AtHand n g) (sym at) (record { fits = f; level = h; lies = d })
 
-  pub spot-begins : (out : List ℕ) (w : Walk) → 8 * k + 8 ≤ length out → w .number ≡ 0 → Begins out x w
-  spot-begins out w h runs = subst (λ (y : Spot). Begins out y w) (sym at) (record { fits = h; level = level; runs = runs })
+-- ---- an entry and what is below
 
-pub low-table : (l a : ℕ) → Lies (suc l) a → a + 512 * span l ≤ 2 ^ 48
-unfolding span
-low-table l a d = d .low
+-- the state with another store
+abbrev pub storing : Walk → Store → Walk
+storing w t = record { reached = w .reached; store = t; refusal = w .refusal }
 
-pub left : (i : ℕ) → i < 512 → 512 - i ≡ suc (512 - (i + 1))
-left i h = omega arith
+module _ (ws : List ℕ) (p : Plan) (x : Spot) (m : Mem) (xs : List ℕ) (w : Walk) where
+  abbrev downOf : ℕ → State → Step State
+  downOf = walkTable (planOf p ws (length xs)) (x .level) (x .va)
 
--- ---- the beginning
+  abbrev does : Act → Step State
+  does = perform (length xs / 3) downOf (x .level) (x .va) (x .word) (view m xs w)
 
-pub lies-root : Lies 4 0
-unfolding span
-lies-root = record { whole = refl; low = omega arith }
+  -- an entry that stays
+  pub skip-visits : Told ws p x Skip → Runs w → Held xs (w .store) → Visits ws p x m xs w m xs w
+  unfolding perform
+  skip-visits told runs held = record { step = outcome-go m xs w runs ∙ sym (ap does (told (length xs))); held = held; long = refl }
 
-pub first-is : (j : Job) (ws : List ℕ) (t : ℕ) (m : Mem) (xs : List ℕ) (w : Walk) (m′ : Mem) (ys : List ℕ) (r : Walk)
-    → setOf (w .reached) ≡ mark noTables t → Empty (w .store) → Walked j ws t 3 0 m xs w m′ ys r → First j ws t m (length xs) m′ ys r
-first-is j ws t m xs w m′ ys r es e d =
-    record {
-      step = d .step ∙ ap₂ (λ (y : Tables) (z : List Moved). walkTable (planOf j ws (length xs)) 4 0 t (record { mem = m; reached = y; moved = z })) es (empty-leaves xs (w .store) e);
+  -- a leaf that moves by o
+  module _ (o : ℕ) (told : Told ws p x (Leaf o)) (m′ : Mem) (ys : List ℕ) where
+    pub stored-visits : (t : Store) → Moves (p .geometry) x o m xs (w .store) m′ ys (Stored t) → Runs w → Visits ws p x m xs w m′ ys (storing w t)
+    stored-visits t d runs = record {
+      step = outcome-go m′ ys (storing w t) runs ∙ d .step (planOf p ws (length xs)) refl (setOf (w .reached)) downOf
+          ∙ sym (ap does (told (length xs)));
       held = d .held;
       long = d .long;
     }
+
+    pub refused-visits : (r : Refusal) → Moves (p .geometry) x o m xs (w .store) m′ ys (Refused r) → (w′ : Walk) → w′ ≡ refusing w r
+        → Visits ws p x m xs w m′ ys w′ × (Runs w′ → ⊥)
+    refused-visits r d w′ e = rw e (
+      record {
+        step = outcome-stop m′ ys (refusing w r) (d .held .1)
+            ∙ d .step (planOf p ws (length xs)) refl (setOf (w .reached)) downOf ∙ sym (ap does (told (length xs)));
+        held = d .held .0;
+        long = d .long;
+      },
+      d .held .1,
+    )
+
+  -- a pointer that is opened
+  module _ (held : Held xs (w .store)) (m′ : Mem) (o : Opened) (opens : Opens p x m w m′ o) where
+    pub opened-held : Held xs (o .state .store)
+    opened-held = subst (Held xs) (sym (opens .store)) held
+
+    pub visits-done : o .turn ≡ Done → Visits ws p x m xs w m′ xs (o .state)
+    visits-done q = record {
+      step = ap (λ (u : Turn). opensTo downOf u m′ xs (o .state)) (sym q) ∙ opens .step ws xs downOf;
+      held = opened-held;
+      long = refl;
+    }
+
+    pub visits-down : (t : ℕ) → o .turn ≡ Down t → 1 ≤ x .level → (m″ : Mem) (zs : List ℕ) (r : Walk)
+        → Walked ws p t (x .level - 1) (x .va) m′ xs (o .state) m″ zs r → Visits ws p x m xs w m″ zs r
+    visits-down t q h m″ zs r d = record {
+      step = d .step
+          ∙ ap (λ (l : ℕ). walkTable (planOf p ws (length xs)) l (x .va) t (view m′ xs (o .state))) (up (x .level) h)
+          ∙ ap (λ (u : Turn). opensTo downOf u m′ xs (o .state)) (sym q) ∙ opens .step ws xs downOf;
+      held = d .held;
+      long = d .long;
+    }
+
+-- ---- the entries of a table, one by one
+
+-- what is done at entry i, with n words of scratch
+abbrev turnOf : List ℕ → Plan → ℕ → ℕ → ℕ → ℕ → ℕ → State → Step State
+turnOf ws p n t l a = λ i s. visit (planOf p ws n) (λ b t′ s″. walkTable (planOf p ws n) l b t′ s″) l a t i s
+
+-- entry i, where the memory is m
+abbrev pub entryAt : Mem → ℕ → ℕ → ℕ → ℕ → Spot
+entryAt m t l a i = spotIn m (slot t i) l (a + i * span l)
+
+-- what is left from entry i on, with the bytes, the scratch and the state as they are now, gives the whole
+pub record Turning (ws : List ℕ) (p : Plan) (t l a : ℕ) (out₀ xs₀ : List ℕ) (w₀ : Walk) (out xs : List ℕ) (w : Walk) (i : ℕ) : Type 0 where
+  pub low : i ≤ 512
+  pub bytes : length out ≡ length out₀
+  pub scratch : length xs ≡ length xs₀
+  pub runs : Runs w
+  pub held : Held xs (w .store)
+  pub step : times (512 - i) (turnOf ws p (length xs₀) t l a) i (view (wordsOf out) xs w)
+      ≡ walkTable (planOf p ws (length xs₀)) (suc l) a t (view (wordsOf out₀) xs₀ w₀)
+
+pub begin : (ws : List ℕ) (p : Plan) (t l a : ℕ) (out₀ xs₀ : List ℕ) (w₀ : Walk) → Runs w₀ → Held xs₀ (w₀ .store)
+    → Turning ws p t l a out₀ xs₀ w₀ out₀ xs₀ w₀ 0
+unfolding walkTable
+begin ws p t l a out₀ xs₀ w₀ runs held = record { low = omega arith; bytes = refl; scratch = refl; runs = runs; held = held; step = refl }
+
+module _ {ws : List ℕ} {p : Plan} {t l a : ℕ} {out₀ xs₀ : List ℕ} {w₀ : Walk} {out xs : List ℕ} {w : Walk} {i : ℕ}
+    (turning : Turning ws p t l a out₀ xs₀ w₀ out xs w i) where
+  pub over : 512 ≤ i → Walked ws p t l a (wordsOf out₀) xs₀ w₀ (wordsOf out) xs w
+  unfolding times
+  over h =
+      let none : 512 - i ≡ 0 = omega arith in
+      record {
+        step = outcome-go (wordsOf out) xs w (turning .runs)
+            ∙ ap (λ (n : ℕ). times n (turnOf ws p (length xs₀) t l a) i (view (wordsOf out) xs w)) (sym none) ∙ turning .step;
+        held = turning .held;
+        long = turning .scratch;
+      }
+
+  -- entry i is visited, and leaves the words m′
+  module _ (h : i < 512) {x : Spot} (at : x ≡ entryAt (wordsOf out) t l a i) {m′ : Mem} {ys : List ℕ} {r : Walk}
+      (visits : Visits ws p x (wordsOf out) xs w m′ ys r) where
+    abbrev turn : ℕ → State → Step State
+    turn = turnOf ws p (length xs₀) t l a
+
+    -- the entries after it
+    abbrev later : State → Step State
+    later s = times (512 - (i + 1)) turn (suc i) s
+
+    turn-is : outcome m′ ys r ≡ turn i (view (wordsOf out) xs w)
+    unfolding visit
+    turn-is =
+        visits .step
+        ∙ ap (λ (c : ℕ). perform (c / 3) (walkTable (planOf p ws c) (x .level) (x .va)) (x .level) (x .va) (x .word) (view (wordsOf out) xs w)
+        (actAt (planOf p ws c) x)) (turning .scratch)
+        ∙ ap (λ (y : Spot). perform (length xs₀ / 3) (walkTable (planOf p ws (length xs₀)) (y .level) (y .va)) (y .level) (y .va) (y .word)
+        (view (wordsOf out) xs w) (actAt (planOf p ws (length xs₀)) y)) at
+
+    rest : andThen (outcome m′ ys r) later ≡ walkTable (planOf p ws (length xs₀)) (suc l) a t (view (wordsOf out₀) xs₀ w₀)
+    unfolding times
+    rest =
+        let more : 512 - i ≡ suc (512 - (i + 1)) = omega arith in
+        ap (λ (z : Step State). andThen z later) turn-is
+        ∙ ap (λ (n : ℕ). times n turn i (view (wordsOf out) xs w)) (sym more) ∙ turning .step
+
+    pub again : Runs r → (out′ : List ℕ) → m′ ≡ wordsOf out′ → length out′ ≡ length out → Turning ws p t l a out₀ xs₀ w₀ out′ ys r (i + 1)
+    unfolding andThen
+    again runs out′ e long =
+        let next : i + 1 ≡ suc i = omega arith in
+        record {
+          low = omega arith;
+          bytes = long ∙ turning .bytes;
+          scratch = visits .long ∙ turning .scratch;
+          runs = runs;
+          held = visits .held;
+          step = ap₂ (λ (n : ℕ) (m : Mem). times (512 - (i + 1)) turn n (view m ys r)) next (sym e)
+              ∙ ap (λ (z : Step State). andThen z later) (sym (outcome-go m′ ys r runs)) ∙ rest;
+        }
+
+    pub stops : (Runs r → ⊥) → Walked ws p t l a (wordsOf out₀) xs₀ w₀ m′ ys r
+    unfolding andThen
+    stops f =
+        let stop : outcome m′ ys r ≡ stopped (r .refusal) = outcome-stop m′ ys r f in
+        record {
+          step = stop ∙ ap (λ (z : Step State). andThen z later) (sym stop) ∙ rest;
+          held = visits .held;
+          long = visits .long ∙ turning .scratch;
+        }
+
+-- ---- the beginning
+
+pub first-is : (ws : List ℕ) (p : Plan) (t : ℕ) (m : Mem) (xs : List ℕ) (w : Walk) (m′ : Mem) (ys : List ℕ) (r : Walk)
+    → setOf (w .reached) ≡ mark noTables t → Empty (w .store) → Walked ws p t (p .geometry .top) 0 m xs w m′ ys r
+    → First ws p t m (length xs) m′ ys r
+first-is ws p t m xs w m′ ys r es e d = record {
+  step = d .step
+      ∙ ap₂ (λ (y : Tables) (z : List Moved). walkTable (planOf p ws (length xs)) (suc (p .geometry .top)) 0 t (record { mem = m; reached = y; moved = z }))
+      es (empty-leaves xs (w .store) e);
+  held = d .held;
+  long = d .long;
+}
