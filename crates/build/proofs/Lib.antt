@@ -1,4 +1,10 @@
-pub mod Buffers
-pub mod Calls
+-- the output that holds the image and then zeros
+mod Buffers
+-- from the checks through both passes
+mod Handing
+-- the call of build
+mod Ending
+-- one outcome
 pub mod One
+-- for a caller: the contract joined with the theorems
 pub mod Theorems
