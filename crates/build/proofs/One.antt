@@ -7,6 +7,7 @@ use Rattle.definitions.specs.Inputs as I
 use Rattle.definitions.specs.declared.Report.{Report}
 use Rattle.build.specs.Meaning.{Builds}
 
-pub one-outcome : (j : I.Job) (n : ℕ) (p q : Report) (bytes bytes′ words words′ : List ℕ) → Builds j n p bytes words → Builds j n q bytes′ words′
+pub one-outcome : (j : I.Job) (p q : Report) (bytes bytes′ words words′ : List ℕ) → Builds j p bytes words → Builds j q bytes′ words′
     → (p ≡ q) × (bytes ≡ bytes′) × (words ≡ words′)
-one-outcome j n p q bytes bytes′ words words′ a b = (a .report ∙ sym (b .report), a .output ∙ sym (b .output), a .scratch ∙ sym (b .scratch))
+one-outcome j p q bytes bytes′ words words′ a b =
+    (a .report ∙ sym (b .report), a .output ∙ sym (b .output), a .scratch ∙ sym (b .scratch))

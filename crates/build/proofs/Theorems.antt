@@ -50,7 +50,7 @@ pub call-exact : (c : Call) → Exact (asked c)
 call-exact c = exact (asked c) (proper c)
 
 -- the report p has number 0, and out are the bytes of the output
-module _ (c : Call) (p : Report) (out scratch : List ℕ) (b : Builds (asked c) (c .scratch) p out scratch) (yes : p .number ≡ 0) where
+module _ (c : Call) (p : Report) (out scratch : List ℕ) (b : Builds (asked c) p out scratch) (yes : p .number ≡ 0) where
   accepts : build (asked c) .report .number ≡ 0
   accepts = sym (ap (λ (r : Report). r .number) (b .report)) ∙ yes
 
