@@ -6,6 +6,8 @@ use Prim.Native.Nat.{ℕ}
 use lib.ListN.{replicate}
 use Rattle.definitions.specs.Inputs.{Job}
 use Rattle.definitions.specs.Build.{build, outputBytes}
+use Rattle.definitions.specs.Geometry.{four}
+use Rattle.definitions.specs.Load.{load}
 use Rattle.definitions.specs.declared.Region.{Region}
 use Rattle.definitions.specs.declared.Report.{Report}
 
@@ -18,8 +20,13 @@ reportWords r =
     r .number ∷ r .used ∷ r .moved ∷ r .merged ∷ r .reached
     ∷ r .place .address ∷ r .place .level ∷ r .place .offset ∷ []
 
--- the report, every byte of the output and every word of the scratch, for a job
+-- `archwend_build`: the report, every byte of the output and every word of the scratch, for a job
 pub record Answers (j : Job) (report output scratch : List ℕ) : Type 0 where
   pub reported : report ≡ reportWords (build j .report)
   pub built : output ≡ outputBytes j
   pub cleared : scratch ≡ replicate (j .scratchLength) 0
+
+-- `archwend_set_page_data`: the number, and every byte of the image
+pub record LoadsPage (r : Region) (image : List ℕ) (gpa : ℕ) (page : List ℕ) (n : ℕ) (after : List ℕ) : Type 0 where
+  pub number : n ≡ load four r image gpa page .number
+  pub loaded : after ≡ load four r image gpa page .image

@@ -1,12 +1,9 @@
 // The functions that a loader links: C's calling convention, a slice being a pointer and a length.
 use build::CpuPagingState;
 use definitions::Region;
-ghost use mathlib.Core.Path.{_≡_};
 ghost use lib.ListN.{length};
-ghost use Rattle.definitions.specs.Geometry.{four};
 ghost use Rattle.definitions.specs.Build.{jobOf};
-ghost use Rattle.definitions.specs.Load.{loaded, load};
-ghost use Rattle.archwend.specs.Exports.{regionAt, Answers};
+ghost use Rattle.archwend.specs.Exports.{regionAt, Answers, LoadsPage};
 
 // Builds the relocated tables of the image into the output; report: number, used, moved, merged, reached, and the place's
 // address, level and offset.
@@ -24,7 +21,10 @@ pub extern "C" fn archwend_build(
     table_offset: u64,
     report: &mut [u64; 8],
 )
-    ensures { λ _. ⌜ Answers (jobOf (regionAt gpa size used) cr3 cr4 «table_offset» (now (ranges .entry)) (now (image .entry)) (length (now (output .entry))) (length (now (scratch .entry)))) (now (report .exit)) (now (output .exit)) (now (scratch .exit)) ⌝ }
+    ensures { λ _. ⌜ Answers
+        (jobOf (regionAt gpa size used) cr3 cr4 «table_offset» (now (ranges .entry)) (now (image .entry))
+        (length (now (output .entry))) (length (now (scratch .entry))))
+        (now (report .exit)) (now (output .exit)) (now (scratch .exit)) ⌝ }
 {
     let r = Region {
         gpa: gpa,
@@ -56,12 +56,12 @@ pub extern "C" fn archwend_set_page_data(
     page_gpa: u64,
     data: &[u8],
 ) -> u64
-    ensures { λ n. ⌜ loaded n (now (image .exit)) ≡ load four (regionAt gpa size used) (now (image .entry)) «page_gpa» (now («data» .entry)) ⌝ }
+    ensures { λ n. ⌜ LoadsPage (regionAt gpa size used) (now (image .entry)) «page_gpa» (now («data» .entry)) n (now (image .exit)) ⌝ }
 {
     let r = Region {
         gpa: gpa,
         size: size,
         used: used,
     };
-    region::set_page_data(image, r, page_gpa, data)
+    region::set_page_data(image, levels::four(), r, page_gpa, data)
 }

@@ -119,7 +119,13 @@ fn load(image: &mut [u8], v: &mut [u64; REGISTERS]) {
     let r = region(v);
     if n <= 8192 {
         if used <= image.len() {
-            let answer = region::set_page_data(&mut image[0..used], r, v[1], &page[0..n]);
+            let answer = region::set_page_data(
+                &mut image[0..used],
+                levels::four(),
+                r,
+                v[1],
+                &page[0..n],
+            );
             count(answer == v[3], v);
             return;
         }

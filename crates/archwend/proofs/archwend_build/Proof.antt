@@ -1,3 +1,5 @@
+-- `archwend_build` meets its contract: it is `build::build`, and the report's parts are listed in the header's order. No loop.
+-- Assumes nothing.
 use mathlib.Core.Path.{ap}
 use Rattle.definitions.specs.Build.{jobOf}
 use Rattle.archwend.specs.Exports.{reportWords}
@@ -17,7 +19,8 @@ same-length-2 c = search needs
 returns : tie.Need-returns
 unfolding jobOf
 returns c =
-    let b = c .before .before .before .before .before .before .build .ensures in
+    let back = c .before .before .before in
+    let b = back .before .before .before .build .ensures in
     record { reported = ap reportWords (b .report); built = b .output; cleared = b .scratch }
 
 pub archwend-build-spec : {M : Type 1} → statement M

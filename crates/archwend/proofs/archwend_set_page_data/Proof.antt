@@ -1,0 +1,31 @@
+-- `archwend_set_page_data` meets its contract: it is `region::set_page_data` with four levels. No loop.
+-- Assumes nothing.
+use Rattle.definitions.specs.Load.{Loaded, load}
+use Rattle.definitions.specs.declared.paging.Geometry.{Geometry}
+use Rattle.archwend.specs.Exports.{regionAt}
+use mathlib.Core.Path.{ap, _∙_}
+use borrow.Author.Needs.{needs}
+use Rattle.archwend.proofs.archwend_set_page_data.Statement.{statement}
+use Rattle.archwend.proofs.archwend_set_page_data.Tie as tie
+
+four-requires : tie.Need-four-requires
+four-requires c κs = search needs
+
+set-page-data-requires : tie.Need-set-page-data-requires
+set-page-data-requires c κs = search needs
+
+same-length : tie.Need-same-length
+same-length c = search needs
+
+returns : tie.Need-returns
+returns c =
+    let load-call = c .before .before in
+    let four = load-call .before in
+    let a = four .before .before .before .before .args in
+    let r = regionAt (a .gpa) (a .size) (a .used) in
+    let e = load-call .set-page-data .ensures ∙ ap (λ (g : Geometry). load g r (a .image .now) (a .page-gpa) (a .data .now)) (four .four .ensures) in
+    record { number = ap (λ (l : Loaded). l .number) e; loaded = ap (λ (l : Loaded). l .image) e }
+
+pub archwend-set-page-data-spec : {M : Type 1} → statement M
+archwend-set-page-data-spec =
+    tie.close (tie.spec four-requires set-page-data-requires same-length returns)
