@@ -3,7 +3,7 @@
 use mathlib.Core.Path.{_≡_, refl, sym, ap, ap₂, subst, _∙_}
 use mathlib.Core.Bool.{true, _&&_}
 use mathlib.Core.List.{List, [], List·Memᴰ}
-use Prim.Native.Nat.{ℕ, _+_, _*_, _/_, _%_, _^_, _≤_, _<_}
+use Prim.Native.Nat.{ℕ, _+_, _*_, _/_, _%_, _^_, _≤_}
 use native.Mathlib.Nat.{zero-add}
 use native.Mathlib.Omega.{arith}
 use lib.ListN.{length}
@@ -28,12 +28,12 @@ use Rattle.ranges.proofs.Scan.{listed}
 use Rattle.moved.specs.View.{nth, leavesOf}
 use Rattle.moved.proofs.Leaves.{gather-in, leaves-length}
 use Rattle.reached.specs.Held.{setOf}
-use Rattle.pass1.specs.Walks.{view, outcome, Runs, PlanFits, Asked, First}
+use Rattle.pass1.specs.Walks.{view, outcome, Runs, Asked, First}
 use Rattle.pass1.specs.Walks as P
 use Rattle.pass1.proofs.Moving.{outcome-go, outcome-stop}
 use Rattle.pass1.specs.declared.Plan.{Plan}
 use Rattle.pass1.specs.declared.Walk.{Walk}
-use Rattle.pass2.specs.Meaning.{fillOf, begun, Kept, Holds, Stored, Filled}
+use Rattle.pass2.specs.Meaning.{fillOf, begun, Kept, Stored, Filled}
 use Rattle.pass2.specs.Meaning as S
 use Rattle.pass2.proofs.All.{of-job}
 use Rattle.pass2.specs.declared.Fill.{Fill}

@@ -10,7 +10,7 @@ use lib.ListN.{length}
 use Rattle.definitions.specs.Words.{Mem, Tables, slot, mark, noTables, wordsOf}
 use Rattle.definitions.specs.Geometry.{span}
 use Rattle.definitions.specs.Step.{Step, andThen, times, stopped}
-use Rattle.definitions.specs.Pass1.{State, Act, keep, moveAct, perform, visit, walkTable}
+use Rattle.definitions.specs.Pass1.{State, Act, perform, visit, walkTable}
 use Rattle.definitions.specs.Pass1 as D
 use Rattle.definitions.proofs.Geometry.{SoundGeometry, span-pos, span-suc}
 use Rattle.definitions.specs.declared.Moved.{Moved}
@@ -28,7 +28,7 @@ use Rattle.pass1.specs.declared.Turn.{Turn}
 use Rattle.pass1.specs.declared.Turn.the-variants.{Down, Done}
 use Rattle.pass1.specs.declared.Opened.{Opened}
 use Rattle.pass1.specs.declared.Task.the-variants.{Skip, Leaf}
-use Rattle.pass1.specs.Walks.{spotIn, actAt, view, outcome, Runs, refusing, planOf, performed, Told, Moves, Opens, opensTo, Lies, AtHand, Visits, Walked, First}
+use Rattle.pass1.specs.Walks.{spotIn, actAt, view, outcome, Runs, refusing, planOf, Told, Moves, Opens, opensTo, Lies, AtHand, Visits, Walked, First}
 use Rattle.pass1.proofs.Moving.{outcome-go, outcome-stop}
 
 -- ---- where entries lie

@@ -3,9 +3,7 @@
 -- Assumes nothing.
 use Rattle.build.proofs.Handing.{asked, root-used, ends-first, stored, ends-second, used-fits, ends-go}
 use native.Mathlib.Omega.{arith}
-use mathlib.Core.Path.{_≡_, refl, ap, sym, _∙_}
-use lib.ListN.{length}
-use Prim.Native.Nat.{ℕ}
+use mathlib.Core.Path.{refl}
 use borrow.Author.Needs.{needs}
 use Rattle.build.proofs.passes.Statement.{statement}
 use Rattle.build.proofs.passes.Tie as tie
