@@ -5,11 +5,12 @@ use mathlib.Core.Path.{_≡_, refl, sym, ap, ap₂, subst, _∙_}
 use mathlib.Core.Bool.{Bool, true, false}
 use mathlib.Core.Logic.{⊎-elim}
 use mathlib.Core.List.{List, _∷_}
-use native.Mathlib.Nat.{add-zero, zero-add, add-suc, suc-add}
+use native.Mathlib.Nat.{add-zero, zero-add}
 use native.Mathlib.Omega.{arith}
 use borrow.Author.Tests.{lt-ltb, le-ltb, le-leb, lt-leb}
 use lib.Dec.{leb}
 use lib.ListN.{length}
+use Rattle.definitions.proofs.Numbers.{suc-across}
 use Rattle.definitions.specs.Pass1.{taken, remember}
 use Rattle.definitions.specs.Step.{go, unless}
 use Rattle.definitions.specs.declared.Moved.{Moved}
@@ -50,7 +51,7 @@ remember-one (suc n) (suc k) g h i x l below above before here after =
     (λ j p q. below j (omega arith) (omega arith))
     (λ j p q. above j (omega arith) (omega arith))
     (λ j p q. before j (omega arith) (omega arith))
-    (ap h (suc-add i k ∙ sym (add-suc i k)) ∙ here)
+    (ap h (suc-across i k) ∙ here)
     (λ j p q. after j (omega arith) (omega arith))))
 
 module _ (n k : ℕ) (g h : ℕ → Moved) (x : Moved) (kn : k ≤ n)
