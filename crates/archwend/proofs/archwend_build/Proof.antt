@@ -7,15 +7,6 @@ use borrow.Author.Needs.{needs}
 use Rattle.archwend.proofs.archwend_build.Statement.{statement}
 use Rattle.archwend.proofs.archwend_build.Tie as tie
 
-build-requires : tie.Need-build-requires
-build-requires c κs = search needs
-
-same-length : tie.Need-same-length
-same-length c = search needs
-
-same-length-2 : tie.Need-same-length-2
-same-length-2 c = search needs
-
 returns : tie.Need-returns
 unfolding jobOf
 returns c =
@@ -24,4 +15,4 @@ returns c =
     record { reported = ap reportWords (b .report); built = b .output; cleared = b .scratch }
 
 pub archwend-build-spec : {M : Type 1} → statement M
-archwend-build-spec = tie.close (tie.spec build-requires same-length same-length-2 returns)
+archwend-build-spec = tie.close (tie.spec (search needs) (search needs) (search needs) returns)

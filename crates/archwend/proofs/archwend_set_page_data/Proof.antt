@@ -8,15 +8,6 @@ use borrow.Author.Needs.{needs}
 use Rattle.archwend.proofs.archwend_set_page_data.Statement.{statement}
 use Rattle.archwend.proofs.archwend_set_page_data.Tie as tie
 
-four-requires : tie.Need-four-requires
-four-requires c κs = search needs
-
-set-page-data-requires : tie.Need-set-page-data-requires
-set-page-data-requires c κs = search needs
-
-same-length : tie.Need-same-length
-same-length c = search needs
-
 returns : tie.Need-returns
 returns c =
     let load-call = c .before .before in
@@ -27,5 +18,4 @@ returns c =
     record { number = ap (λ (l : Loaded). l .number) e; loaded = ap (λ (l : Loaded). l .image) e }
 
 pub archwend-set-page-data-spec : {M : Type 1} → statement M
-archwend-set-page-data-spec =
-    tie.close (tie.spec four-requires set-page-data-requires same-length returns)
+archwend-set-page-data-spec = tie.close (tie.spec (search needs) (search needs) (search needs) returns)

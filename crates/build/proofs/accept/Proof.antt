@@ -5,18 +5,6 @@ use borrow.Author.Needs.{needs}
 use Rattle.build.proofs.accept.Statement.{statement}
 use Rattle.build.proofs.accept.Tie as tie
 
-none-requires : tie.Need-none-requires
-none-requires c κs = search needs
-
-mul-t5 : tie.Need-mul-t5
-mul-t5 c = search needs
-
-add-t6 : tie.Need-add-t6
-add-t6 c = search needs
-
-count-requires : tie.Need-count-requires
-count-requires c κs = search needs
-
 returns : tie.Need-returns
 returns c =
     let none = c .before .before .before in
@@ -31,4 +19,4 @@ returns c =
     }
 
 pub accept-spec : {M : Type 1} → statement M
-accept-spec = tie.close (tie.spec none-requires mul-t5 add-t6 count-requires returns)
+accept-spec = tie.close (tie.spec (search needs) (search needs) (search needs) (search needs) returns)

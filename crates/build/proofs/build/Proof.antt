@@ -62,20 +62,8 @@ ready z =
     ready-with _ _ _ _ _ _ _ _ _ (checked z .before .geometry-of .ensures) (good s .0) _ (good s .1) _ _ (copied z .copy .ensures) (z .clear .ensures)
 
 -- ---- the needs
-geometry-of-requires : tie.Need-geometry-of-requires
-geometry-of-requires c κs = search needs
-
 check-inputs-requires : tie.Need-check-inputs-requires
 check-inputs-requires c κs = search needs
-
-enum-known-start : tie.Need-enum-known-start
-enum-known-start c = search needs
-
-refuse-requires : tie.Need-refuse-requires
-refuse-requires c κs = search needs
-
-enum-known-start-2 : tie.Need-enum-known-start-2
-enum-known-start-2 c = search needs
 
 copy-requires : tie.Need-copy-requires
 unfolding jobOf
@@ -85,31 +73,10 @@ copy-requires c κs =
     let h : length (a .image .now) ≤ length (a .out .now) = image-fits (J (checks s)) (good s .0) in
     omega arith
 
-clear-requires : tie.Need-clear-requires
-clear-requires c κs = search needs
-
 passes-requires : tie.Need-passes-requires
 passes-requires c κs =
     let z = let known = c .before .before in known .before .before in
     (J (checked z), ready z)
-
-enum-known-ended : tie.Need-enum-known-ended
-enum-known-ended c = search needs
-
-refuse-requires-2 : tie.Need-refuse-requires-2
-refuse-requires-2 c κs = search needs
-
-enum-known-ended-2 : tie.Need-enum-known-ended-2
-enum-known-ended-2 c = search needs
-
-clear-requires-2 : tie.Need-clear-requires-2
-clear-requires-2 c κs = search needs
-
-same-length : tie.Need-same-length
-same-length c = search needs
-
-same-length-2 : tie.Need-same-length-2
-same-length-2 c = search needs
 
 returns : tie.Need-returns
 unfolding jobOf
@@ -141,9 +108,6 @@ same-length-3 c =
     let b = let e = cleared .before .before .before .before in e .before .before in
     c .before .before .before .out5 .given ∙ bytes-long b
 
-same-length-4 : tie.Need-same-length-4
-same-length-4 c = search needs
-
 returns-2 : tie.Need-returns-2
 unfolding jobOf
 returns-2 c =
@@ -154,12 +118,6 @@ returns-2 c =
     let j = J (checked (zeros p)) in
     let refused = subst (Passes j (wordsOf (p .passes .last .0))) (e .ended .given .1) (p .passes .ensures j (ready (zeros p))) in
     refused-builds refused (cleared .refuse2 .ensures) (bytes-long b) (b .before .scratch2 .given)
-
-same-length-5 : tie.Need-same-length-5
-same-length-5 c = search needs
-
-same-length-6 : tie.Need-same-length-6
-same-length-6 c = search needs
 
 returns-3 : tie.Need-returns-3
 unfolding jobOf
@@ -176,25 +134,6 @@ returns-3 c =
 pub build-spec : {M : Type 1} → statement M
 build-spec =
     tie.close
-    (tie.spec
-    geometry-of-requires
-    check-inputs-requires
-    enum-known-start
-    refuse-requires
-    enum-known-start-2
-    copy-requires
-    clear-requires
-    passes-requires
-    enum-known-ended
-    refuse-requires-2
-    enum-known-ended-2
-    clear-requires-2
-    same-length
-    same-length-2
-    returns
-    same-length-3
-    same-length-4
-    returns-2
-    same-length-5
-    same-length-6
-    returns-3)
+    (tie.spec (search needs) check-inputs-requires (search needs) (search needs) (search needs) copy-requires
+    (search needs) passes-requires (search needs) (search needs) (search needs) (search needs) (search needs)
+    (search needs) returns same-length-3 (search needs) returns-2 (search needs) (search needs) returns-3)

@@ -113,12 +113,6 @@ ranges₆ : (c : tie.Else6) (n : ℕ) → let j = J (v₄ (e₄ (f₅ (e₅ c)))
 ranges₆ c n = ranges-is (c .before) n ∙ not-false _ (c .if6 .left)
 
 -- ---- the needs
-valid-requires : tie.Need-valid-requires
-valid-requires c κs = search needs
-
-plain-requires : tie.Need-plain-requires
-plain-requires c κs = search needs
-
 returns : tie.Need-returns
 unfolding jobOf
 returns c n =
@@ -126,26 +120,17 @@ returns c n =
     let bad = ap (λ (l : ℕ). regionOk l (start-of v .args .r)) (limit-is v) ∙ sym (v .valid .ensures) ∙ not-true _ (c .before .if1 .taken) in
     refused (start-region (J v n) bad) (c .plain .ensures)
 
-plain-requires-2 : tie.Need-plain-requires-2
-plain-requires-2 c κs = search needs
-
 returns-2 : tie.Need-returns-2
 unfolding jobOf
 returns-2 c n =
     let e = c .before .before .before in
     refused (start-image (J (e .before) n) (valid₁ e n) (c .before .if2 .taken)) (c .plain2 .ensures)
 
-plain-requires-3 : tie.Need-plain-requires-3
-plain-requires-3 c κs = search needs
-
 returns-3 : tie.Need-returns-3
 unfolding jobOf
 returns-3 c n =
     let e = c .before .before .before in
     refused (start-output (J (v₂ e) n) (valid₁ (e .before .before) n) (e .if2 .left) (c .before .if3 .taken)) (c .plain3 .ensures)
-
-plain-requires-4 : tie.Need-plain-requires-4
-plain-requires-4 c κs = search needs
 
 returns-4 : tie.Need-returns-4
 unfolding jobOf
@@ -154,18 +139,6 @@ returns-4 c n =
     let e = e₃ .before .before in
     let five = c .before .if4 .taken in
     refused (start-levels (J (v₂ e) n) (valid₁ (e .before .before) n) (e .if2 .left) (e₃ .if3 .left) five) (c .plain4 .ensures)
-
-calculate-page-table-index-requires : tie.Need-calculate-page-table-index-requires
-calculate-page-table-index-requires c κs = search needs
-
-enum-known-found : tie.Need-enum-known-found
-enum-known-found c = search needs
-
-enum-told : tie.Need-enum-told
-enum-told c = search needs
-
-plain-requires-5 : tie.Need-plain-requires-5
-plain-requires-5 c κs = search needs
 
 returns-5 : tie.Need-returns-5
 unfolding jobOf
@@ -177,12 +150,6 @@ returns-5 c n =
     let out = in-no-table _ _ (sym (asked .calculate-page-table-index .ensures) ∙ ap indexOf (told .enum-told .given .1)) in
     refused (start-root (J (v₄ e) n) (p .region) (p .image) (p .output) (p .levels) out) (c .plain5 .ensures)
 
-offset-valid-requires : tie.Need-offset-valid-requires
-offset-valid-requires c κs = search needs
-
-plain-requires-6 : tie.Need-plain-requires-6
-plain-requires-6 c κs = search needs
-
 returns-6 : tie.Need-returns-6
 unfolding jobOf
 returns-6 c n =
@@ -191,12 +158,6 @@ returns-6 c n =
     let p = past₄ (e₄ f) n in
     let bad = offset-is o n ∙ not-true _ (c .before .if5 .taken) in
     refused (start-offset (J (v₄ (e₄ f)) n) (p .region) (p .image) (p .output) (p .levels) (found₅ f n .0) bad) (c .plain6 .ensures)
-
-list-valid-requires : tie.Need-list-valid-requires
-list-valid-requires c κs = search needs
-
-plain-requires-7 : tie.Need-plain-requires-7
-plain-requires-7 c κs = search needs
 
 returns-7 : tie.Need-returns-7
 unfolding jobOf
@@ -214,9 +175,6 @@ add-at c =
     let s = start-of (v₄ (e₄ (f₅ e))) in
     let sound = subst SoundGeometry (sym (s .pre)) (geometry-sound (s .args .cpu .cr4)) in
     omega (arith, sound .top)
-
-at-requires : tie.Need-at-requires
-at-requires c κs = search needs
 
 returns-8 : tie.Need-returns-8
 unfolding jobOf usedTables
@@ -245,28 +203,6 @@ returns-9 c n =
 pub check-inputs-spec : {M : Type 1} → statement M
 check-inputs-spec =
     tie.close
-    (tie.spec
-    valid-requires
-    plain-requires
-    returns
-    plain-requires-2
-    returns-2
-    plain-requires-3
-    returns-3
-    plain-requires-4
-    returns-4
-    calculate-page-table-index-requires
-    enum-known-found
-    enum-told
-    plain-requires-5
-    returns-5
-    offset-valid-requires
-    plain-requires-6
-    returns-6
-    list-valid-requires
-    plain-requires-7
-    returns-7
-    add-at
-    at-requires
-    returns-8
-    returns-9)
+    (tie.spec (search needs) (search needs) returns (search needs) returns-2 (search needs) returns-3 (search needs)
+    returns-4 (search needs) (search needs) (search needs) (search needs) returns-5 (search needs) (search needs)
+    returns-6 (search needs) (search needs) returns-7 add-at (search needs) returns-8 returns-9)

@@ -29,20 +29,11 @@ abbrev filling : tie.After-slice-known6 → tie.After-second-pass
 filling c = c .before .before .before .before
 
 -- ---- the needs
-moved-by-requires : tie.Need-moved-by-requires
-moved-by-requires c κs = search needs
-
 first-pass-requires : tie.Need-first-pass-requires
 first-pass-requires c κs =
     let m = c .before .before in
     let ready = start m .pre .1 in
     (asked ready (m .moved-by .ensures), root-used ready (m .moved-by .ensures))
-
-same-length : tie.Need-same-length
-same-length c = search needs
-
-same-length-2 : tie.Need-same-length-2
-same-length-2 c = search needs
 
 returns : tie.Need-returns
 returns c j ready =
@@ -56,12 +47,6 @@ second-pass-requires c κs =
     let m = moving w in
     stored (start m .pre .1) (m .moved-by .ensures) (w .first-pass .ensures) (e .if1 .left) _ (search needs)
 
-enum-known-filled : tie.Need-enum-known-filled
-enum-known-filled c = search needs
-
-enum-known-filled-2 : tie.Need-enum-known-filled-2
-enum-known-filled-2 c = search needs
-
 accept-requires : tie.Need-accept-requires
 accept-requires c κs =
     let f = c .before in
@@ -73,12 +58,6 @@ accept-requires c κs =
     let fits = used-fits (start m .pre .1) (m .moved-by .ensures) first (e .if1 .left) refl (p .second-pass .ensures) (f .filled2 .given .1) in
     (omega (arith, fits), omega (arith, first .held .fits, first .long, start m .good, start m .fits))
 
-same-length-3 : tie.Need-same-length-3
-same-length-3 c = search needs
-
-same-length-4 : tie.Need-same-length-4
-same-length-4 c = search needs
-
 returns-2 : tie.Need-returns-2
 returns-2 c j ready =
     let f = c .before in
@@ -86,12 +65,6 @@ returns-2 c j ready =
     let e = went p in
     let w = walk₁ e in
     ends-second ready (moving w .moved-by .ensures) (w .first-pass .ensures) (e .if1 .left) refl (p .second-pass .ensures) (f .filled .given .1)
-
-same-length-5 : tie.Need-same-length-5
-same-length-5 c = search needs
-
-same-length-6 : tie.Need-same-length-6
-same-length-6 c = search needs
 
 returns-3 : tie.Need-returns-3
 returns-3 c j ready =
@@ -105,19 +78,5 @@ returns-3 c j ready =
 pub passes-spec : {M : Type 1} → statement M
 passes-spec =
     tie.close
-    (tie.spec
-    moved-by-requires
-    first-pass-requires
-    same-length
-    same-length-2
-    returns
-    second-pass-requires
-    enum-known-filled
-    enum-known-filled-2
-    accept-requires
-    same-length-3
-    same-length-4
-    returns-2
-    same-length-5
-    same-length-6
-    returns-3)
+    (tie.spec (search needs) first-pass-requires (search needs) (search needs) returns second-pass-requires (search needs)
+    (search needs) accept-requires (search needs) (search needs) returns-2 (search needs) (search needs) returns-3)

@@ -7,18 +7,6 @@ use borrow.Author.Needs.{needs}
 use Rattle.build.proofs.refuse.Statement.{statement}
 use Rattle.build.proofs.refuse.Tie as tie
 
-clear-requires : tie.Need-clear-requires
-clear-requires c κs = search needs
-
-clear-requires-2 : tie.Need-clear-requires-2
-clear-requires-2 c κs = search needs
-
-same-length : tie.Need-same-length
-same-length c = search needs
-
-same-length-2 : tie.Need-same-length-2
-same-length-2 c = search needs
-
 returns : tie.Need-returns
 unfolding refused
 returns c =
@@ -27,5 +15,4 @@ returns c =
     record { report = refl; output = bytes .clear .ensures ∙ cleared-all _; scratch = words .clear2 .ensures }
 
 pub refuse-spec : {M : Type 1} → statement M
-refuse-spec =
-    tie.close (tie.spec clear-requires clear-requires-2 same-length same-length-2 returns)
+refuse-spec = tie.close (tie.spec (search needs) (search needs) (search needs) (search needs) returns)

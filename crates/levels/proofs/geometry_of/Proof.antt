@@ -5,12 +5,9 @@ use borrow.Author.Needs.{needs}
 use Rattle.levels.proofs.geometry_of.Statement.{statement}
 use Rattle.levels.proofs.geometry_of.Tie as tie
 
-four-requires : tie.Need-four-requires
-four-requires c κs = search needs
-
 returns : tie.Need-returns
 unfolding geometryOf
 returns c = c .four .ensures
 
 pub geometry-of-spec : {M : Type 1} → statement M
-geometry-of-spec = tie.close (tie.spec four-requires returns)
+geometry-of-spec = tie.close (tie.spec (search needs) returns)

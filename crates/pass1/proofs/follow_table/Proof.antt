@@ -23,15 +23,6 @@ abbrev set : tie.After-out → tie.After-with-address
 set c = c .before .before .before
 
 -- ---- the needs
-at-requires : tie.Need-at-requires
-at-requires c κs = search needs
-
-refused-requires : tie.Need-refused-requires
-refused-requires c κs = search needs
-
-done-requires : tie.Need-done-requires
-done-requires c κs = search needs
-
 returns : tie.Need-returns
 returns c =
     let r = c .before in
@@ -39,18 +30,6 @@ returns c =
     let s = start (t .before) in
     opens-free (s .pre .1 .0) (s .pre .1 .1) (t .if1 .taken)
     (refused-is (s .args .state) (r .before .at .ensures) (r .refused .ensures) (c .done .ensures))
-
-mark-and-ask-requires : tie.Need-mark-and-ask-requires
-mark-and-ask-requires c κs = search needs
-
-at-requires-2 : tie.Need-at-requires-2
-at-requires-2 c κs = search needs
-
-refused-requires-2 : tie.Need-refused-requires-2
-refused-requires-2 c κs = search needs
-
-done-requires-2 : tie.Need-done-requires-2
-done-requires-2 c κs = search needs
 
 returns-2 : tie.Need-returns-2
 returns-2 c =
@@ -62,19 +41,10 @@ returns-2 c =
     opens-again (s .pre .1 .0) (s .pre .1 .1) (used k .if1 .left) was
     (refused-is (s .args .state) (r .before .at2 .ensures) (r .refused2 .ensures) (c .done2 .ensures))
 
-wrapping-add-u64-requires : tie.Need-wrapping-add-u64-requires
-wrapping-add-u64-requires c κs = search needs
-
 with-address-requires : tie.Need-with-address-requires
 with-address-requires c κs =
     let p = begun (c .before .before) .pre in
     to-fits (p .0 .plan) (p .1 .0) (p .1 .1) (c .wrapping-add-u64 .ensures)
-
-write-word-requires : tie.Need-write-word-requires
-write-word-requires c κs = search needs
-
-same-length : tie.Need-same-length
-same-length c = search needs
 
 returns-3 : tie.Need-returns-3
 returns-3 c =
@@ -91,18 +61,5 @@ returns-3 c =
 pub follow-table-spec : {M : Type 1} → statement M
 follow-table-spec =
     tie.close
-    (tie.spec
-    at-requires
-    refused-requires
-    done-requires
-    returns
-    mark-and-ask-requires
-    at-requires-2
-    refused-requires-2
-    done-requires-2
-    returns-2
-    wrapping-add-u64-requires
-    with-address-requires
-    write-word-requires
-    same-length
-    returns-3)
+    (tie.spec (search needs) (search needs) (search needs) returns (search needs) (search needs) (search needs)
+    (search needs) returns-2 (search needs) with-address-requires (search needs) (search needs) returns-3)

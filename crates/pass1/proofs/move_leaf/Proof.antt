@@ -69,26 +69,11 @@ away c =
     }
 
 -- ---- the needs
-span-of-requires : tie.Need-span-of-requires
-span-of-requires c κs = search needs
-
-rem-if1 : tie.Need-rem-if1
-rem-if1 c = search needs
-
-with-offset-requires : tie.Need-with-offset-requires
-with-offset-requires c κs = search needs
-
 returns : tie.Need-returns
 returns c = moves-odd (start (c .before .before) .pre .held) (odd (c .before)) (c .with-offset .ensures)
 
-wrapping-add-u64-requires : tie.Need-wrapping-add-u64-requires
-wrapping-add-u64-requires c κs = search needs
-
 sub-if2 : tie.Need-sub-if2
 sub-if2 c = below c
-
-with-offset-requires-2 : tie.Need-with-offset-requires-2
-with-offset-requires-2 c κs = search needs
 
 returns-2 : tie.Need-returns-2
 returns-2 c =
@@ -107,46 +92,16 @@ with-address-requires c κs =
 remember-requires : tie.Need-remember-requires
 remember-requires c κs = search needs
 
-enum-known-kept : tie.Need-enum-known-kept
-enum-known-kept c = search needs
-
-write-word-requires : tie.Need-write-word-requires
-write-word-requires c κs = search needs
-
-enum-told : tie.Need-enum-told
-enum-told c = search needs
-
-at-requires : tie.Need-at-requires
-at-requires c κs = search needs
-
-enum-told-2 : tie.Need-enum-told-2
-enum-told-2 c = search needs
-
-at-requires-2 : tie.Need-at-requires-2
-at-requires-2 c κs = search needs
-
-same-length : tie.Need-same-length
-same-length c = search needs
-
-same-length-2 : tie.Need-same-length-2
-same-length-2 c = search needs
-
 returns-3 : tie.Need-returns-3
 returns-3 c =
     let w = c .before .before in
     let k = stored w .before .before in
     moves-in (away (set k)) (asked k .remember .ensures) (stored w .kept .given .1) (w .write-word .ensures .0)
 
-same-length-3 : tie.Need-same-length-3
-same-length-3 c = search needs
-
 returns-4 : tie.Need-returns-4
 returns-4 c =
     let k = c .before .before .before in
     moves-clash (away (set k)) (asked k .remember .ensures) (start (sized (past₂ (set k))) .pre .held) (c .before .enum-told .given .1) (c .at .ensures)
-
-same-length-4 : tie.Need-same-length-4
-same-length-4 c = search needs
 
 returns-5 : tie.Need-returns-5
 returns-5 c =
@@ -156,27 +111,6 @@ returns-5 c =
 pub move-leaf-spec : {M : Type 1} → statement M
 move-leaf-spec =
     tie.close
-    (tie.spec
-    span-of-requires
-    rem-if1
-    with-offset-requires
-    returns
-    wrapping-add-u64-requires
-    sub-if2
-    with-offset-requires-2
-    returns-2
-    with-address-requires
-    remember-requires
-    enum-known-kept
-    write-word-requires
-    enum-told
-    at-requires
-    enum-told-2
-    at-requires-2
-    same-length
-    same-length-2
-    returns-3
-    same-length-3
-    returns-4
-    same-length-4
-    returns-5)
+    (tie.spec (search needs) (search needs) (search needs) returns (search needs) sub-if2 (search needs) returns-2
+    with-address-requires remember-requires (search needs) (search needs) (search needs) (search needs) (search needs)
+    (search needs) (search needs) (search needs) returns-3 (search needs) returns-4 (search needs) returns-5)

@@ -10,27 +10,6 @@ use Rattle.pass1.proofs.pass_outside.Tie as tie
 abbrev start : tie.After-calculate-page-table-index → tie.Start
 start c = c .before .before
 
-calculate-page-table-index-requires : tie.Need-calculate-page-table-index-requires
-calculate-page-table-index-requires c κs = search needs
-
-enum-told : tie.Need-enum-told
-enum-told c = search needs
-
-at-requires : tie.Need-at-requires
-at-requires c κs = search needs
-
-refused-requires : tie.Need-refused-requires
-refused-requires c κs = search needs
-
-done-requires : tie.Need-done-requires
-done-requires c κs = search needs
-
-enum-told-2 : tie.Need-enum-told-2
-enum-told-2 c = search needs
-
-done-requires-2 : tie.Need-done-requires-2
-done-requires-2 c κs = search needs
-
 returns : tie.Need-returns
 returns c m =
     let r = c .before in
@@ -50,13 +29,5 @@ returns-2 c m =
 pub pass-outside-spec : {M : Type 1} → statement M
 pass-outside-spec =
     tie.close
-    (tie.spec
-    calculate-page-table-index-requires
-    enum-told
-    at-requires
-    refused-requires
-    done-requires
-    enum-told-2
-    done-requires-2
-    returns
-    returns-2)
+    (tie.spec (search needs) (search needs) (search needs) (search needs) (search needs) (search needs) (search needs)
+    returns returns-2)

@@ -6,13 +6,10 @@ use borrow.Author.Needs.{needs}
 use Rattle.pass1.proofs.spot_at.Statement.{statement}
 use Rattle.pass1.proofs.spot_at.Tie as tie
 
-read-word-requires : tie.Need-read-word-requires
-read-word-requires c κs = search needs
-
 returns : tie.Need-returns
 returns c =
     let a = c .before .before .args in
     ap (λ (e : ℕ). record { word = a .word; entry = e; level = a .level; va = a .va }) (c .read-word .ensures)
 
 pub spot-at-spec : {M : Type 1} → statement M
-spot-at-spec = tie.close (tie.spec read-word-requires returns)
+spot-at-spec = tie.close (tie.spec (search needs) returns)

@@ -28,28 +28,16 @@ points : (c : tie.Else2) → let x = start (past₁ c) .args .spot in pointer (x
 points c = sym (c .before .points-to-table .ensures) ∙ c .if2 .left
 
 -- ---- the needs
-is-present-requires : tie.Need-is-present-requires
-is-present-requires c κs = search needs
-
 returns : tie.Need-returns
 returns c =
     let a = c .before .before .before .args in
     told-absent (a .plan) (a .ranges .now) (a .spot) (sym (c .before .is-present .ensures) ∙ not-true _ (c .if1 .taken))
-
-points-to-table-requires : tie.Need-points-to-table-requires
-points-to-table-requires c κs = search needs
 
 returns-2 : tie.Need-returns-2
 returns-2 c = record { here = here (c .before .before); points = sym (c .before .points-to-table .ensures) ∙ c .if2 .taken }
 
 lookup-requires : tie.Need-lookup-requires
 lookup-requires c κs = let s = start (past₁ (c .before)) in looks-fit (s .args .ranges .now) (s .args .plan) (s .args .spot) (s .pre)
-
-enum-told : tie.Need-enum-told
-enum-told c = search needs
-
-enum-known-said : tie.Need-enum-known-said
-enum-known-said c = search needs
 
 returns-3 : tie.Need-returns-3
 returns-3 c =
@@ -68,13 +56,5 @@ returns-4 c =
 pub task-at-spec : {M : Type 1} → statement M
 task-at-spec =
     tie.close
-    (tie.spec
-    is-present-requires
-    returns
-    points-to-table-requires
-    returns-2
-    lookup-requires
-    enum-told
-    enum-known-said
-    returns-3
+    (tie.spec (search needs) returns (search needs) returns-2 lookup-requires (search needs) (search needs) returns-3
     returns-4)

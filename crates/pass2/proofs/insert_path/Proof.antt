@@ -59,26 +59,11 @@ look-at-requires c κs =
     let h = t .before .before in
     fits (geometry h) (h .loop .inv) (k .word-at .ensures .1) (t .if1 .taken)
 
-enum-known-step : tie.Need-enum-known-step Inv-loop μ-loop
-enum-known-step c = search needs
-
-same-length : tie.Need-same-length Inv-loop μ-loop
-same-length c = search needs
-
 returns : tie.Need-returns Inv-loop μ-loop
 returns c =
     let l = looked (c .before .before .before) in
     let h = head l in
     stopped (geometry h) (h .loop .inv) (word l .word-at .ensures .0) (above l .if1 .taken) (l .look-at .ensures) (c .before .step .given .1)
-
-enum-known-step-2 : tie.Need-enum-known-step-2 Inv-loop μ-loop
-enum-known-step-2 c = search needs
-
-sub-level : tie.Need-sub-level Inv-loop μ-loop
-sub-level c = search needs
-
-loop-less : tie.Need-loop-less Inv-loop μ-loop
-loop-less c = search needs
 
 loop-again : tie.Need-loop-again Inv-loop μ-loop
 loop-again c =
@@ -95,9 +80,6 @@ place-requires c κs =
     let h = k .before .before .before in
     (inside (geometry h) (h .loop .inv) (k .word-at2 .ensures .1), h .loop .inv .ready .1 .merged)
 
-same-length-2 : tie.Need-same-length-2 Inv-loop μ-loop
-same-length-2 c = search needs
-
 returns-2 : tie.Need-returns-2 Inv-loop μ-loop
 returns-2 c =
     let p = c .before .before in
@@ -109,20 +91,5 @@ returns-2 c =
 pub insert-path-spec : {M : Type 1} → statement M
 insert-path-spec =
     tie.close
-    (tie.spec
-    Inv-loop
-    μ-loop
-    loop-holds
-    word-at-requires
-    look-at-requires
-    enum-known-step
-    same-length
-    returns
-    enum-known-step-2
-    sub-level
-    loop-less
-    loop-again
-    word-at-requires-2
-    place-requires
-    same-length-2
-    returns-2)
+    (tie.spec Inv-loop μ-loop loop-holds word-at-requires look-at-requires (search needs) (search needs) returns
+    (search needs) (search needs) (search needs) loop-again word-at-requires-2 place-requires (search needs) returns-2)

@@ -16,9 +16,6 @@ free : (c : tie.Else1) → let a = start (c .before) .args in let n = a .new .gp
 free c = free-fits (start (c .before) .pre .0 .1) (c .if1 .left)
 
 -- ---- the needs
-at-requires : tie.Need-at-requires
-at-requires c κs = search needs
-
 returns : tie.Need-returns
 returns c =
     let t = c .before in
@@ -38,12 +35,6 @@ write-word-requires c κs =
     let e = c .before .before .before in
     start (e .before) .pre .0 .1 .word
 
-add-t9 : tie.Need-add-t9
-add-t9 c = search needs
-
-same-length : tie.Need-same-length
-same-length c = search needs
-
 returns-2 : tie.Need-returns-2
 returns-2 c =
     let w = c .before .before in
@@ -57,13 +48,5 @@ returns-2 c =
 pub link-table-spec : {M : Type 1} → statement M
 link-table-spec =
     tie.close
-    (tie.spec
-    at-requires
-    returns
-    mul-fresh-table
-    add-fresh-table
-    fresh-table-requires
-    write-word-requires
-    add-t9
-    same-length
-    returns-2)
+    (tie.spec (search needs) returns mul-fresh-table add-fresh-table fresh-table-requires write-word-requires
+    (search needs) (search needs) returns-2)

@@ -21,9 +21,6 @@ returns-3 : tie.Need-returns-3
 unfolding rangeOk
 returns-3 c = rw (le-ltb _ _ (c .if3 .taken), and-false)
 
-shares-requires : tie.Need-shares-requires
-shares-requires c κs = search needs
-
 returns-4 : tie.Need-returns-4
 unfolding rangeOk
 returns-4 c =
@@ -33,4 +30,4 @@ returns-4 c =
     rw (le-leb _ _ (p₁ .if1 .left), le-leb _ _ (p₂ .if2 .left), lt-ltb _ _ (p₃ .if3 .left)) (ap not (c .shares .ensures))
 
 pub range-valid-spec : {M : Type 1} → statement M
-range-valid-spec = tie.close (tie.spec returns returns-2 returns-3 shares-requires returns-4)
+range-valid-spec = tie.close (tie.spec returns returns-2 returns-3 (search needs) returns-4)

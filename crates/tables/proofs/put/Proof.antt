@@ -6,12 +6,6 @@ use borrow.Author.Needs.{needs}
 use Rattle.tables.proofs.put.Statement.{statement}
 use Rattle.tables.proofs.put.Tie as tie
 
-write-word-requires : tie.Need-write-word-requires
-write-word-requires c κs = search needs
-
-same-length : tie.Need-same-length
-same-length c = search needs
-
 returns : tie.Need-returns
 returns c =
     record {
@@ -27,4 +21,4 @@ returns-2 c =
     }
 
 pub put-spec : {M : Type 1} → statement M
-put-spec = tie.close (tie.spec write-word-requires same-length returns returns-2)
+put-spec = tie.close (tie.spec (search needs) (search needs) returns returns-2)

@@ -6,9 +6,6 @@ use Rattle.tables.specs.Meaning.{wordAt}
 use Rattle.tables.proofs.word_at.Statement.{statement}
 use Rattle.tables.proofs.word_at.Tie as tie
 
-read-word-requires : tie.Need-read-word-requires
-read-word-requires c κs = search needs
-
 returns : tie.Need-returns
 unfolding wordAt
 returns c = rw (lt-ltb _ _ (c .before .if1 .taken)) (c .read-word .ensures)
@@ -18,4 +15,4 @@ unfolding wordAt
 returns-2 c = rw (le-ltb _ _ (c .if1 .left))
 
 pub word-at-spec : {M : Type 1} → statement M
-word-at-spec = tie.close (tie.spec read-word-requires returns returns-2)
+word-at-spec = tie.close (tie.spec (search needs) returns returns-2)
