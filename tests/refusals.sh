@@ -1,13 +1,13 @@
 #!/usr/bin/env bash
-# Each refusal has one name, one number and one sentence in the definitions, the header, the loader and relocate. 20 is of entry
-# operations, which are not exported. Exit status 0: all agree.
+# Each refusal has one name, one number and one sentence in the definitions, the header, the loader and relocate. Exit status 0:
+# all agree.
 set -euo pipefail
 cd "$(dirname "$0")/.."
 room=$(mktemp -d)
 trap 'rm -rf "$room"' EXIT
 
 # Each list has lines NUMBER NAME: SENTENCE; the definitions have no sentences.
-sed -n 's/^pub const \(.*\): u64 = \(.*\);$/\2 \1/p' crates/definitions/src/refusals.rt | grep -v '^20 ' >"$room/definitions"
+sed -n 's/^pub const \(.*\): u64 = \(.*\);$/\2 \1/p' crates/definitions/src/refusals.rt >"$room/definitions"
 sed -n '/^enum archwend_number/,/^}/s|^ *ARCHWEND_\([A-Z0-9_]*\) = \([0-9]*\),\{0,1\} */\* \(.*\) \*/$|\2 \1: \3|p' \
     include/archwend.h >"$room/header"
 sed -n 's/^    \([A-Z0-9_]*\) = \([0-9]*\), "\(.*\)";$/\2 \1: \3/p' loader/src/lib.rs >"$room/loader"
