@@ -7,7 +7,7 @@ use Prim.Native.Nat.{ℕ}
 use Rattle.definitions.specs.declared.Region.{Region}
 use Rattle.definitions.specs.declared.paging.Geometry.{Geometry}
 use Rattle.definitions.specs.Load.{Loaded}
-use Rattle.region.specs.Meaning.{indexOf, Valid, OffsetValid, MovedBy, Held, Loads}
+use Rattle.region.specs.Meaning.{indexOf, Valid, OffsetValid, MovedBy, GivesTable, Loads}
 use Rattle.region.specs.declared.TableIndex.{TableIndex}
 use Rattle.region.specs.declared.TableIndex.the-variants.{At, Outside}
 
@@ -26,7 +26,7 @@ one-offset-valid g r o v w p q = p ∙ sym q
 pub one-moved-by : (r : Region) (o : ℕ) (m n : Region) → MovedBy r o m → MovedBy r o n → m ≡ n
 one-moved-by r o m n p q = p ∙ sym q
 
-pub one-table-index : (r : Region) (a : ℕ) (t u : TableIndex) → Held r a t → Held r a u → t ≡ u
+pub one-table-index : (r : Region) (a : ℕ) (t u : TableIndex) → GivesTable r a t → GivesTable r a u → t ≡ u
 one-table-index r a t u p q = index-injective t u (p ∙ sym q)
 
 -- the number, and the image at exit
