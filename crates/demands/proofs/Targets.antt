@@ -12,7 +12,7 @@ use Rattle.definitions.specs.Offset.{signed, Fits}
 use Rattle.definitions.specs.Pass1.{refuse, act}
 use Rattle.definitions.specs.Build.{geometry, height, planOf}
 use Rattle.definitions.specs.Demand.{Proper, Reached, stopBefore, entryBefore, Moves, MovedBy}
-use Rattle.definitions.specs.Conditions.{BadEntry, inTail, intoMoved, notWhole, tooFar, BadTables, bad, again, twice, taken, crowded, Refusal, TooFar}
+use Rattle.definitions.specs.Conditions.{BadEntry, inTail, intoMoved, notWhole, tooFar, BadTables, bad, again, twice, taken, crowded, Condition, TooFar}
 use Rattle.definitions.specs.declared.Moved.{Moved}
 use Rattle.definitions.specs.declared.Place.{Place}
 use Rattle.definitions.proofs.Geometry.{span-pos, part-step, part-first, part-below}
@@ -90,7 +90,7 @@ module _ (j : Job) (proper : Proper j) where
   far-tables n q e (taken a b ne d w) = absurd (omega arith)
   far-tables n q e (crowded a xs d from more w) = absurd (omega arith)
 
-  far-refused : (q : Place) → TooFar j q → Refusal j 13 q
+  far-refused : (q : Place) → TooFar j q → Condition j 13 q
   far-refused q f =
       let a : ℕ = (f .p * 512 + f .i) * span (f .l) in
       let e : ℕ = j .image (512 * f .t + f .i) in
@@ -101,7 +101,7 @@ module _ (j : Job) (proper : Proper j) where
       inr (inl (bad {n = 13} {q = q} (record { t = f .t; l = f .l; p = f .p; i = f .i; low = f .low; way = f .way; acted = rw (f .place) w })))
 
   -- 13 is given exactly where the true new span of a leaf is not within 0 and the bound
-  pub too-far-iff : (q : Place) → Refusal j 13 q ↔ TooFar j q
+  pub too-far-iff : (q : Place) → Condition j 13 q ↔ TooFar j q
   too-far-iff q = (
     ⊎-elim (λ b. absurd (omega (arith, bad-input-number j 13 q b .1))) (⊎-elim (far-tables 13 q refl) (λ b. absurd (omega (arith, places-number j 13 q b)))),
     far-refused q,
