@@ -28,12 +28,12 @@ use Rattle.ranges.proofs.Scan.{listed}
 use Rattle.moved.specs.View.{nth, leavesOf}
 use Rattle.moved.proofs.Leaves.{gather-in, leaves-length}
 use Rattle.reached.specs.Held.{setOf}
-use Rattle.pass1.specs.Walks.{view, outcome, Runs, Asked, First}
+use Rattle.pass1.specs.Walks.{view, outcome, Runs, Asked, FirstWalked}
 use Rattle.pass1.specs.Walks as P
 use Rattle.pass1.proofs.Moving.{outcome-go, outcome-stop}
 use Rattle.pass1.specs.declared.Plan.{Plan}
 use Rattle.pass1.specs.declared.Walk.{Walk}
-use Rattle.pass2.specs.Meaning.{fillOf, begun, Kept, Stored, Filled}
+use Rattle.pass2.specs.Meaning.{fillOf, begun, FewMore, SecondFits, Filled}
 use Rattle.pass2.specs.Meaning as S
 use Rattle.pass2.proofs.All.{of-job}
 use Rattle.pass2.specs.declared.Fill.{Fill}
@@ -123,7 +123,7 @@ module _ {j : I.Job} {out xs ws : List ℕ} {g : Geometry} {r : Region} {o t : �
     room = ready .room i / 3;
   }
 
-  module _ {m : Mem} {ys : List ℕ} {w : Walk} (first : First ws (planWith g r new o) t (wordsOf out) (length xs) m ys w) where
+  module _ {m : Mem} {ys : List ℕ} {w : Walk} (first : FirstWalked ws (planWith g r new o) t (wordsOf out) (length xs) m ys w) where
     first-is : outcome m ys w ≡ firstPass j (startState j)
     unfolding firstPass
     first-is = first .step ∙ (λ i. walkTable (plan-is i) (S.height (sym (ready .geometry) i)) 0 (ready .root i)
@@ -139,7 +139,7 @@ module _ {j : I.Job} {out xs ws : List ℕ} {g : Geometry} {r : Region} {o t : �
       low : Low (S.height g) (view m ys w)
       low = subst (λ (h : Geometry). Low (S.height h) (view m ys w)) (ready .geometry) (subst (After (Low (height j))) goes (low-first j))
 
-      pub stored : (b : ℕ) → b ≡ length out → Stored b ys g new t (w .store)
+      pub stored : (b : ℕ) → b ≡ length out → SecondFits b ys g new t (w .store)
       unfolding movedRegion
       stored b e =
           let size : new .size ≡ r .size = ap (λ (z : Region). z .size) moves in
@@ -168,7 +168,7 @@ module _ {j : I.Job} {out xs ws : List ℕ} {g : Geometry} {r : Region} {o t : �
         -- the new used length fits
         pub used-fits : {k : Fill} → f ≡ Go k → 4096 * k .next ≤ 512 * 4096
         used-fits {k} q =
-            let kept = subst (Kept new (w .store .front + w .store .back) (begun new)) q (filled .kept) in
+            let kept = subst (FewMore new (w .store .front + w .store .back) (begun new)) q (filled .kept) in
             omega (arith, kept .0, new-sound .most)
 
         pub ends-go : {k : Fill} → f ≡ Go k → {p : Report} → p ≡ counted (w .reached) (w .store) k → Passes j (wordsOf zs) (Accepted p)

@@ -35,7 +35,7 @@ use Rattle.pass1.specs.declared.Walk.{Walk}
 use Rattle.pass1.specs.declared.Spot.{Spot}
 use Rattle.pass1.specs.declared.Task.the-variants.{Skip, Leaf}
 use Rattle.pass1.specs.declared.Departure.the-variants.{Stored, Refused}
-use Rattle.pass1.specs.Walks.{stateOf, view, Runs, outcome, planOf, Told, TaskFits, Moves}
+use Rattle.pass1.specs.Walks.{stateOf, view, Runs, outcome, planOf, Told, TaskFits, Departs}
 
 -- ---- the state
 
@@ -112,7 +112,7 @@ answered : (q : Place) (ys : List ℕ) {k j : Kept} → k ≡ j → keptStep q j
 answered q ys e = ap (λ (z : Kept). keptStep q z ys) (sym e)
 
 module _ {g : Geometry} {x : Spot} {o : ℕ} {m : Mem} {xs : List ℕ} {s : Store} (held : Held xs s) where
-  pub moves-odd : (o % span (x .level) ≡ 0 → ⊥) → {r : Refusal} → r ≡ refusalWith 12 (x .va) (x .level) o → Moves g x o m xs s m xs (Refused r)
+  pub moves-odd : (o % span (x .level) ≡ 0 → ⊥) → {r : Refusal} → r ≡ refusalWith 12 (x .va) (x .level) o → Departs g x o m xs s m xs (Refused r)
   unfolding moveAct perform
   moves-odd h e =
       rw e (record {
@@ -122,7 +122,7 @@ module _ {g : Geometry} {x : Spot} {o : ℕ} {m : Mem} {xs : List ℕ} {s : Stor
       })
 
   pub moves-past : o % span (x .level) ≡ 0 → g .limit < shifted (x .va) o + span (x .level)
-      → {r : Refusal} → r ≡ refusalWith 13 (x .va) (x .level) o → Moves g x o m xs s m xs (Refused r)
+      → {r : Refusal} → r ≡ refusalWith 13 (x .va) (x .level) o → Departs g x o m xs s m xs (Refused r)
   unfolding moveAct perform
   moves-past h f e =
       rw e (record {
@@ -143,7 +143,7 @@ module _ {g : Geometry} {x : Spot} {o b v : ℕ} (away : Away g x o b v)
       ∙ remembering-then (length xs / 3) (leavesOf xs s) (place x) (leaf b (x .level) v) (cleared x m reached)
       ∙ rw (away .word, away .to, q, eq-eqb (o % span (x .level)) 0 (away .whole), le-ltb _ _ (away .low))
 
-  pub moves-in : {t : Store} → k ≡ kept.In t → {m m′ : Mem} → m′ ≡ put m (x .word) 0 → Moves g x o m xs s m′ ys (Stored t)
+  pub moves-in : {t : Store} → k ≡ kept.In t → {m m′ : Mem} → m′ ≡ put m (x .word) 0 → Departs g x o m xs s m′ ys (Stored t)
   unfolding andThen
   moves-in {t} e {m} c =
       record {
@@ -154,7 +154,7 @@ module _ {g : Geometry} {x : Spot} {o b v : ℕ} (away : Away g x o b v)
 
   module _ (held : Held xs s) where
     moves-not : (n : ℕ) → (n ≡ 0 → ⊥) → stop n (place x) ≡ keptStep (place x) k ys → ys ≡ xs
-        → {m : Mem} {r : Refusal} → r ≡ refusalAt n (x .va) (x .level) → Moves g x o m xs s m ys (Refused r)
+        → {m : Mem} {r : Refusal} → r ≡ refusalAt n (x .va) (x .level) → Departs g x o m xs s m ys (Refused r)
     unfolding andThen
     moves-not n some e same {m} c =
         rw c (record {
@@ -163,8 +163,8 @@ module _ {g : Geometry} {x : Spot} {o b v : ℕ} (away : Away g x o b v)
           long = keeps .long;
         })
 
-    pub moves-clash : k ≡ kept.Clash → {m : Mem} {r : Refusal} → r ≡ refusalAt 14 (x .va) (x .level) → Moves g x o m xs s m ys (Refused r)
+    pub moves-clash : k ≡ kept.Clash → {m : Mem} {r : Refusal} → r ≡ refusalAt 14 (x .va) (x .level) → Departs g x o m xs s m ys (Refused r)
     moves-clash e = moves-not 14 (λ z. omega arith) (answered (place x) ys e) (subst (KeptIn xs ys) e (keeps .kept))
 
-    pub moves-full : k ≡ kept.Full → {m : Mem} {r : Refusal} → r ≡ refusalAt 15 (x .va) (x .level) → Moves g x o m xs s m ys (Refused r)
+    pub moves-full : k ≡ kept.Full → {m : Mem} {r : Refusal} → r ≡ refusalAt 15 (x .va) (x .level) → Departs g x o m xs s m ys (Refused r)
     moves-full e = moves-not 15 (λ z. omega arith) (answered (place x) ys e) (subst (KeptIn xs ys) e (keeps .kept))

@@ -28,7 +28,7 @@ use Rattle.pass1.specs.declared.Turn.{Turn}
 use Rattle.pass1.specs.declared.Turn.the-variants.{Down, Done}
 use Rattle.pass1.specs.declared.Opened.{Opened}
 use Rattle.pass1.specs.declared.Task.the-variants.{Skip, Leaf}
-use Rattle.pass1.specs.Walks.{spotIn, actAt, view, outcome, Runs, refusing, planOf, Told, Moves, Opens, opensTo, Lies, AtHand, Visits, Walked, First}
+use Rattle.pass1.specs.Walks.{spotIn, actAt, view, outcome, Runs, refusing, planOf, Told, Departs, Opens, opensTo, Lies, AtHand, Visits, Walked, FirstWalked}
 use Rattle.pass1.proofs.Moving.{outcome-go, outcome-stop}
 
 -- ---- where entries lie
@@ -90,7 +90,7 @@ module _ (ws : List ℕ) (p : Plan) (x : Spot) (m : Mem) (xs : List ℕ) (w : Wa
 
   -- a leaf that moves by o
   module _ (o : ℕ) (told : Told ws p x (Leaf o)) (m′ : Mem) (ys : List ℕ) where
-    pub stored-visits : (t : Store) → Moves (p .geometry) x o m xs (w .store) m′ ys (Stored t) → Runs w → Visits ws p x m xs w m′ ys (storing w t)
+    pub stored-visits : (t : Store) → Departs (p .geometry) x o m xs (w .store) m′ ys (Stored t) → Runs w → Visits ws p x m xs w m′ ys (storing w t)
     stored-visits t d runs = record {
       step = outcome-go m′ ys (storing w t) runs ∙ d .step (planOf p ws (length xs)) refl (setOf (w .reached)) downOf
           ∙ sym (ap does (told (length xs)));
@@ -98,7 +98,7 @@ module _ (ws : List ℕ) (p : Plan) (x : Spot) (m : Mem) (xs : List ℕ) (w : Wa
       long = d .long;
     }
 
-    pub refused-visits : (r : Refusal) → Moves (p .geometry) x o m xs (w .store) m′ ys (Refused r) → (w′ : Walk) → w′ ≡ refusing w r
+    pub refused-visits : (r : Refusal) → Departs (p .geometry) x o m xs (w .store) m′ ys (Refused r) → (w′ : Walk) → w′ ≡ refusing w r
         → Visits ws p x m xs w m′ ys w′ × (Runs w′ → ⊥)
     refused-visits r d w′ e = rw e (
       record {
@@ -224,7 +224,7 @@ module _ {ws : List ℕ} {p : Plan} {t l a : ℕ} {out₀ xs₀ : List ℕ} {w�
 
 pub first-is : (ws : List ℕ) (p : Plan) (t : ℕ) (m : Mem) (xs : List ℕ) (w : Walk) (m′ : Mem) (ys : List ℕ) (r : Walk)
     → setOf (w .reached) ≡ mark noTables t → Empty (w .store) → Walked ws p t (p .geometry .top) 0 m xs w m′ ys r
-    → First ws p t m (length xs) m′ ys r
+    → FirstWalked ws p t m (length xs) m′ ys r
 first-is ws p t m xs w m′ ys r es e d = record {
   step = d .step
       ∙ ap₂ (λ (y : Tables) (z : List Moved). walkTable (planOf p ws (length xs)) (suc (p .geometry .top)) 0 t (record { mem = m; reached = y; moved = z }))
