@@ -8,6 +8,7 @@ use native.Mathlib.Nat.{zero-add}
 use native.Mathlib.Omega.{arith}
 use lib.ListN.{length}
 use Rattle.definitions.specs.Words.{Mem, wordsOf, noTables, mark, count}
+use Rattle.definitions.specs.Geometry.{rootHeight}
 use Rattle.definitions.specs.Inputs as I
 use Rattle.definitions.specs.Ranges.{regionOk, usedTables, shifted, movedRegion, offsetOk, listOk, rangesOf, rangesOk, deciding}
 use Rattle.definitions.specs.Step.{go}
@@ -126,7 +127,7 @@ module _ {j : I.Job} {out xs ws : List ℕ} {g : Geometry} {r : Region} {o t : �
   module _ {m : Mem} {ys : List ℕ} {w : Walk} (first : FirstWalked ws (planWith g r new o) t (wordsOf out) (length xs) m ys w) where
     first-is : outcome m ys w ≡ firstPass j (startState j)
     unfolding firstPass
-    first-is = first .step ∙ (λ i. walkTable (plan-is i) (S.height (sym (ready .geometry) i)) 0 (ready .root i)
+    first-is = first .step ∙ (λ i. walkTable (plan-is i) (rootHeight (sym (ready .geometry) i)) 0 (ready .root i)
         (record { mem = ready .image i; reached = mark noTables (ready .root i); moved = [] }))
 
     pub ends-first : (Runs w → ⊥) → Passes j m (Stopped (w .refusal))
@@ -136,8 +137,8 @@ module _ {j : I.Job} {out xs ws : List ℕ} {g : Geometry} {r : Region} {o t : �
       goes : firstPass j (startState j) ≡ go (view m ys w)
       goes = sym first-is ∙ outcome-go m ys w runs
 
-      low : Low (S.height g) (view m ys w)
-      low = subst (λ (h : Geometry). Low (S.height h) (view m ys w)) (ready .geometry) (subst (After (Low (height j))) goes (low-first j))
+      low : Low (rootHeight g) (view m ys w)
+      low = subst (λ (h : Geometry). Low (rootHeight h) (view m ys w)) (ready .geometry) (subst (After (Low (height j))) goes (low-first j))
 
       pub stored : (b : ℕ) → b ≡ length out → SecondFits b ys g new t (w .store)
       unfolding movedRegion

@@ -4,15 +4,15 @@
 use mathlib.Core.Path.{_≡_}
 use mathlib.Core.List.{List, List·Memᴰ}
 use mathlib.Core.Logic.{_⊎_}
-use Prim.Native.Nat.{ℕ, suc, _+_, _*_, _≤_, _<_}
+use Prim.Native.Nat.{ℕ, _*_, _≤_, _<_}
 use lib.ListN.{length}
-use Rattle.definitions.specs.Words.{Mem, slot}
+use Rattle.definitions.specs.Words.{Mem}
 use Rattle.definitions.specs.Geometry.{span}
-use Rattle.definitions.specs.Inputs.{Place, placeAt, Job}
+use Rattle.definitions.specs.Inputs.{Place, Job}
 use Rattle.definitions.specs.Ranges.{Kind, kind}
 use Rattle.definitions.specs.Pass1.{Moved, Act, move, follow, refuse}
 use Rattle.definitions.specs.Build.{height, planOf, root, build}
-use Rattle.definitions.specs.Demand.{Way, actAt, Distinct}
+use Rattle.definitions.specs.Demand.{Met, wordOf, partOf, startOf, placeOf, actAt, Distinct}
 use Rattle.definitions.specs.Conditions.{BadInput, BadTables, BadPlaces, None}
 
 -- ---- walk order: "entries in order, each subtable fully at its entry". An entry of level l that maps part p of the addresses
@@ -22,58 +22,46 @@ Earlier l p l′ p′ = (p * span l < p′ * span l′) ⊎ ((p * span l ≡ p�
 
 -- ---- in an image: read says what an entry is, m has the words, t₀ is the root table, of height h₀
 module _ (read : ℕ → ℕ → Kind) (m : Mem) (h₀ t₀ : ℕ) where
-  -- an entry that is reached: entry i of table t. What lies on the way to it is earlier, so that all ways may count
-  pub record Met : Type 0 where
-    pub t : ℕ
-    pub l : ℕ
-    pub p : ℕ
-    pub i : ℕ
-    pub low : i < 512
-    pub way : Way read m h₀ t₀ t (suc l) p
+  -- the entries that are reached, and their order. What lies on the way to one is earlier, so that all ways may count
+  abbrev Entry : Type 0
+  Entry = Met read m h₀ t₀
 
-  -- the part that it maps, its place, and the order
-  abbrev pub partOf : Met → ℕ
-  partOf e = e .p * 512 + e .i
-
-  abbrev pub spotOf : Met → Place
-  spotOf e = placeAt (partOf e * span (e .l)) (e .l)
-
-  abbrev pub Before : Met → Met → Type 0
+  abbrev pub Before : Entry → Entry → Type 0
   Before b e = Earlier (b .l) (partOf b) (e .l) (partOf e)
 
   -- does: what is done at an entry of a level that maps a part
   module _ (does : ℕ → ℕ → ℕ → Act) where
-    abbrev pub doneAt : Met → Act
-    doneAt e = does (e .l) (partOf e) (m (slot (e .t) (e .i)))
+    abbrev pub doneAt : Entry → Act
+    doneAt e = does (e .l) (partOf e) (m (wordOf e))
 
     -- an entry before e moves as y
-    abbrev pub MovesBefore : Met → Moved → Type 0
-    MovesBefore e y = (b : Met) × Before b e × (doneAt b ≡ move y)
+    abbrev pub MovesBefore : Entry → Moved → Type 0
+    MovesBefore e y = (b : Entry) × Before b e × (doneAt b ≡ move y)
 
     -- no entry before e moves to address a
-    abbrev pub Free : Met → ℕ → Type 0
-    Free e a = (b : Met) (y : Moved) → Before b e → doneAt b ≡ move y → ¬ (y .address ≡ a)
+    abbrev pub Free : Entry → ℕ → Type 0
+    Free e a = (b : Entry) (y : Moved) → Before b e → doneAt b ≡ move y → ¬ (y .address ≡ a)
 
     -- room: for how many moved leaves
     module _ (room : ℕ) where
       -- what is wrong at entry e, by what is earlier alone. refused: 9, 11, 12 or 13 by the entry itself; toRoot, toSame: it leads
       -- to the root, or to a table that an earlier one leads to; taken: it moves to an address that an earlier one moves to;
       -- full: it moves, to an address that is free, and earlier leaves that move are as many as there is room for
-      pub data Wrong (e : Met) : ℕ → Place → Type 0 where
+      pub data Wrong (e : Entry) : ℕ → Place → Type 0 where
         refused : {n : ℕ} {q : Place} → doneAt e ≡ refuse n q → Wrong e n q
-        toRoot : {v : ℕ} {q : Place} → doneAt e ≡ follow t₀ v → q ≡ spotOf e → Wrong e 10 q
-        toSame : {t v v₁ : ℕ} {q : Place} → doneAt e ≡ follow t v → (b : Met) → Before b e → doneAt b ≡ follow t v₁ → q ≡ spotOf e → Wrong e 10 q
-        taken : {x y : Moved} {q : Place} → doneAt e ≡ move x → (b : Met) → Before b e → doneAt b ≡ move y → y .address ≡ x .address
-            → q ≡ spotOf e → Wrong e 14 q
+        toRoot : {v : ℕ} {q : Place} → doneAt e ≡ follow t₀ v → q ≡ placeOf e → Wrong e 10 q
+        toSame : {t v v₁ : ℕ} {q : Place} → doneAt e ≡ follow t v → (b : Entry) → Before b e → doneAt b ≡ follow t v₁ → q ≡ placeOf e → Wrong e 10 q
+        taken : {x y : Moved} {q : Place} → doneAt e ≡ move x → (b : Entry) → Before b e → doneAt b ≡ move y → y .address ≡ x .address
+            → q ≡ placeOf e → Wrong e 14 q
         full : {x : Moved} {q : Place} → doneAt e ≡ move x → Free e (x .address) → (xs : List Moved) → Distinct xs
-            → ((y : Moved) → List·Memᴰ y xs → MovesBefore e y) → room ≤ length xs → q ≡ spotOf e → Wrong e 15 q
+            → ((y : Moved) → List·Memᴰ y xs → MovesBefore e y) → room ≤ length xs → q ≡ placeOf e → Wrong e 15 q
 
       -- number n at place q is the first that is wrong
       pub record First (n : ℕ) (q : Place) : Type 0 where
-        pub entry : Met
+        pub entry : Entry
         pub wrong : Wrong entry n q
         -- nothing is wrong at an earlier entry
-        pub none : (e : Met) → Before e entry → (n′ : ℕ) (q′ : Place) → ¬ Wrong e n′ q′
+        pub none : (e : Entry) → Before e entry → (n′ : ℕ) (q′ : Place) → ¬ Wrong e n′ q′
         -- the leaves that move before it fit the room: at number 15 they fill it
         pub fits : (xs : List Moved) → Distinct xs → ((y : Moved) → List·Memᴰ y xs → MovesBefore entry y) → length xs ≤ room
 
@@ -90,6 +78,6 @@ pub record InOrder (j : Job) : Type 0 where
   pub numbers : 9 ≤ build j .report .number → build j .report .number < 16 → (build j .report .number ≡ 9 → build j .report .place .level < height j)
       → FirstBad j (build j .report .number) (build j .report .place)
   -- the place is that of the entry: the first address that it maps, and its level
-  pub place : (n : ℕ) (q : Place) (f : FirstBad j n q) → (q .address ≡ (f .entry .p * 512 + f .entry .i) * span (f .entry .l)) × (q .level ≡ f .entry .l)
+  pub place : (n : ℕ) (q : Place) (f : FirstBad j n q) → (q .address ≡ startOf (f .entry)) × (q .level ≡ f .entry .l)
   -- and where no input's condition holds, the first in walk order is what is reported
   pub only : (n : ℕ) (q : Place) → None (BadInput j) → FirstBad j n q → (build j .report .number ≡ n) × (build j .report .place ≡ q)

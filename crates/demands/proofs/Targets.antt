@@ -11,7 +11,7 @@ use Rattle.definitions.specs.Ranges.{shift, decide, shifted}
 use Rattle.definitions.specs.Offset.{signed, Fits}
 use Rattle.definitions.specs.Pass1.{refuse, act}
 use Rattle.definitions.specs.Build.{geometry, height, planOf}
-use Rattle.definitions.specs.Demand.{Proper, Reached, stopBefore, entryBefore, Moves, MovedBy}
+use Rattle.definitions.specs.Demand.{Proper, Reached, stopBefore, entryBefore, Moves, MovedBy, wordOf, startOf}
 use Rattle.definitions.specs.Conditions.{BadEntry, inTail, intoMoved, notWhole, tooFar, BadTables, bad, again, twice, taken, crowded, Condition, TooFar}
 use Rattle.definitions.specs.declared.Moved.{Moved}
 use Rattle.definitions.specs.declared.Place.{Place}
@@ -68,12 +68,7 @@ module _ (j : Job) (proper : Proper j) where
   far-entry t l p i low way n q e (notWhole ek ed h) = absurd (omega arith)
   far-entry t l p i low way n q e (tooFar {o} ek ed eo h) =
       record {
-        t = t;
-        l = l;
-        p = p;
-        i = i;
-        low = low;
-        way = way;
+        entry = record { t = t; l = l; p = p; i = i; low = low; way = way };
         isLeaf = rw (plan-is j .old) at ek;
         offset = o;
         decided = ed;
@@ -84,7 +79,8 @@ module _ (j : Job) (proper : Proper j) where
 
   far-tables : (n : ℕ) (q : Place) → n ≡ 13 → BadTables j n q → TooFar j q
   far-tables n q e (bad c) =
-      far-entry (c .t) (c .l) (c .p) (c .i) (c .low) (c .way) n q e (entry-bad j (c .t) (c .l) (c .p) (c .i) n q (c .acted))
+      let r = c .entry in
+      far-entry (r .t) (r .l) (r .p) (r .i) (r .low) (r .way) n q e (entry-bad j (r .t) (r .l) (r .p) (r .i) n q (c .acted))
   far-tables n q e (again a w) = absurd (omega arith)
   far-tables n q e (twice a b ne w) = absurd (omega arith)
   far-tables n q e (taken a b ne d w) = absurd (omega arith)
@@ -92,13 +88,13 @@ module _ (j : Job) (proper : Proper j) where
 
   far-refused : (q : Place) → TooFar j q → Condition j 13 q
   far-refused q f =
-      let a : ℕ = (f .p * 512 + f .i) * span (f .l) in
-      let e : ℕ = j .image (512 * f .t + f .i) in
-      let w : act (planOf j) (f .l) a e ≡ refuse 13 (placeWith a (f .l) (f .offset)) =
-      refuse-iff (planOf j) (f .l) a e 13 (placeWith a (f .l) (f .offset)) .1
-      (tooFar (rw (plan-is j .old) (f .isLeaf)) (f .decided) (f .whole)
-      (far-iff (f .t) (f .l) (f .p) (f .i) (f .offset) (f .low) (f .way) (f .decided) .1 (f .leaves))) in
-      inr (inl (bad {n = 13} {q = q} (record { t = f .t; l = f .l; p = f .p; i = f .i; low = f .low; way = f .way; acted = rw (f .place) w })))
+      let r = f .entry in
+      let q₁ = placeWith (startOf r) (r .l) (f .offset) in
+      let far = far-iff (r .t) (r .l) (r .p) (r .i) (f .offset) (r .low) (r .way) (f .decided) .1 (f .leaves) in
+      let w : act (planOf j) (r .l) (startOf r) (j .image (wordOf r)) ≡ refuse 13 q₁ =
+      refuse-iff (planOf j) (r .l) (startOf r) (j .image (wordOf r)) 13 q₁ .1
+      (tooFar (rw (plan-is j .old) (f .isLeaf)) (f .decided) (f .whole) far) in
+      inr (inl (bad {n = 13} {q = q} (record { entry = r; acted = rw (f .place) w })))
 
   -- 13 is given exactly where the true new span of a leaf is not within 0 and the bound
   pub too-far-iff : (q : Place) → Condition j 13 q ↔ TooFar j q

@@ -8,7 +8,7 @@ use native.Mathlib.Nat.{suc-mul, mul-le-mul-right, div-add-mod', zero-mod}
 use lib.Arith.{digits-mod}
 use lib.ListN.{length}
 use Rattle.definitions.specs.Words.{Mem, Tables, slot, mark, noTables, wordsOf}
-use Rattle.definitions.specs.Geometry.{span}
+use Rattle.definitions.specs.Geometry.{rootHeight, span}
 use Rattle.definitions.specs.Step.{Step, andThen, times, stopped}
 use Rattle.definitions.specs.Pass1.{State, Act, perform, visit, walkTable}
 use Rattle.definitions.specs.Pass1 as D
@@ -227,7 +227,7 @@ pub first-is : (ws : List ℕ) (p : Plan) (t : ℕ) (m : Mem) (xs : List ℕ) (w
     → FirstWalked ws p t m (length xs) m′ ys r
 first-is ws p t m xs w m′ ys r es e d = record {
   step = d .step
-      ∙ ap₂ (λ (y : Tables) (z : List Moved). walkTable (planOf p ws (length xs)) (suc (p .geometry .top)) 0 t (record { mem = m; reached = y; moved = z }))
+      ∙ ap₂ (λ (y : Tables) (z : List Moved). walkTable (planOf p ws (length xs)) (rootHeight (p .geometry)) 0 t (record { mem = m; reached = y; moved = z }))
       es (empty-leaves xs (w .store) e);
   held = d .held;
   long = d .long;

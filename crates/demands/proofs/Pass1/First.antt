@@ -9,7 +9,7 @@ use native.Mathlib.Decide.{decLe}
 use native.Mathlib.Omega.{arith}
 use Rattle.definitions.specs.Geometry.{span}
 use Rattle.definitions.specs.Pass1.{Act, move, follow, refuse, State}
-use Rattle.definitions.specs.Demand.{first, later}
+use Rattle.definitions.specs.Demand.{first, later, Met as MetFrom, partOf, wordOf}
 use Rattle.definitions.specs.Order as O
 use Rattle.definitions.specs.Order.{Earlier, refused, toRoot, toSame, taken, full}
 use Rattle.definitions.specs.declared.Moved.{Moved}
@@ -34,18 +34,14 @@ module _ (K : Passing) where
   open Paging W using (H, root)
 
   abbrev pub Met : Type 0
-  Met = O.Met old m₀ H root
-
-  -- the part that the entry maps
-  abbrev pub partOf : Met → ℕ
-  partOf e = e .p * 512 + e .i
+  Met = MetFrom old m₀ H root
 
   abbrev pub Before : Met → Met → Type 0
   Before b e = Earlier (b .l) (partOf b) (e .l) (partOf e)
 
   -- what is done at it
   abbrev pub does : Met → Act
-  does e = actAs K (e .l) (partOf e) (512 * e .t + e .i)
+  does e = actAs K (e .l) (partOf e) (wordOf e)
 
   abbrev pub Wrong : Met → ℕ → Place → Type 0
   Wrong = O.Wrong old m₀ H root act room
@@ -62,7 +58,7 @@ module _ {K : Passing} {s : State} {P : Map} {c : ℕ → ℕ} (F : All K s P c)
       let m = met e q in
       record { t = e .t; l = e .l; i = e .i; at = seen-at (m .0) (e .low); done = m .1; acted = rw (m .0 .prefix) w }
 
-  done : (e : Met K) → Q e → (a : Act) → does K e ≡ a → Done s P (e .l) (partOf K e) a (K .m₀ (512 * e .t + e .i)) (s .mem (512 * e .t + e .i))
+  done : (e : Met K) → Q e → (a : Act) → does K e ≡ a → Done s P (e .l) (partOf e) a (K .m₀ (512 * e .t + e .i)) (s .mem (512 * e .t + e .i))
   unfolding source
   done e q a w = let r = source e q a w in rw (met e q .0 .prefix, w) at (F .inv .done (e .t) (e .l) (e .i) (r .at) (r .done))
 
@@ -70,7 +66,7 @@ module _ {K : Passing} {s : State} {P : Map} {c : ℕ → ℕ} (F : All K s P c)
   listed e q x w = done e q (move x) w .1
 
   -- two of them that are done at one word are one
-  one : (b e : Met K) → Q b → Q e → 512 * b .t + b .i ≡ 512 * e .t + e .i → (b .l ≡ e .l) × (partOf K b ≡ partOf K e)
+  one : (b e : Met K) → Q b → Q e → 512 * b .t + b .i ≡ 512 * e .t + e .i → (b .l ≡ e .l) × (partOf b ≡ partOf e)
   one b e qb qe w =
       let mb = met b qb in
       let me = met e qe in
@@ -87,11 +83,11 @@ module _ {K : Passing} {s : State} {P : Map} {c : ℕ → ℕ} (F : All K s P c)
   fine e qe n q (toSame {t} {v} {v₁} w b r wb z) =
       let de = done e qe (follow t v) w in
       let db = done b (before b e r qe) (follow t v₁) wb in
-      earlier-other (b .l) (partOf K b) (e .l) (partOf K e) (sym (db .1 .height) ∙ de .1 .height) (sym (db .1 .prefix) ∙ de .1 .prefix) r
+      earlier-other (b .l) (partOf b) (e .l) (partOf e) (sym (db .1 .height) ∙ de .1 .height) (sym (db .1 .prefix) ∙ de .1 .prefix) r
   fine e qe n q (taken {x} {y} w b r wb ea z) =
       let qb = before b e r qe in
       let o = one b e qb qe (F .hist .uniq y x (source b qb (move y) wb) (source e qe (move x) w) ea) in
-      earlier-other (b .l) (partOf K b) (e .l) (partOf K e) (o .0) (o .1) r
+      earlier-other (b .l) (partOf b) (e .l) (partOf e) (o .0) (o .1) r
   fine e qe n q (full {x} w free xs d from h z) =
       let g = within-length (x ∷ xs) (s .moved) ((λ i. let b = from x i in free (b .0) x (b .1) (b .2) refl), d)
       (λ y i. ⊎-elim (λ v. rw v (listed e qe x w)) (λ v. let b = from y v in listed (b .0) (before (b .0) e (b .1) qe) y (b .2))
@@ -144,7 +140,7 @@ module _ {K : Passing} (S : Sound K) (n : ℕ) (q : Place) (h : Halt K n q) wher
       (m, below-cursor (e .t) (e .l) (e .i) (seen-at m (e .low)) (rw (m .prefix) b))
 
   before-trans : (a b : Met K) → Before K a b → Before K b here → Before K a here
-  before-trans a b = earlier-trans (a .l) (partOf K a) (b .l) (partOf K b) (here .l) (partOf K here)
+  before-trans a b = earlier-trans (a .l) (partOf a) (b .l) (partOf b) (here .l) (partOf here)
 
   fine-before : (e : Met K) → Before K e here → (n′ : ℕ) (q′ : Place) → ¬ Wrong K e n′ q′
   fine-before = fine all (λ e. Before K e here) before-trans met-before

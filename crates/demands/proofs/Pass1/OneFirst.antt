@@ -1,12 +1,12 @@
 -- Pass 1, walk order: there is one first entry at which something is wrong, and one number and place for it (first-one). Builds on First.
 -- Assumes nothing.
-use Prim.Native.Nat.{ℕ, suc, _*_}
+use Prim.Native.Nat.{ℕ, suc}
 use mathlib.Core.Path.{_≡_, refl, sym, _∙_, ap}
 use mathlib.Core.Logic.{_⊎_, inl, inr, ⊎-elim}
 use native.Mathlib.Nat.{eq-of-mul-eq-mul-right}
 use native.Mathlib.Omega.{arith}
 use Rattle.definitions.specs.Geometry.{span}
-use Rattle.definitions.specs.Inputs.{placeAt}
+use Rattle.definitions.specs.Demand.{partOf, placeOf}
 use Rattle.definitions.specs.Pass1.{Act, keep, move, follow, refuse}
 use Rattle.definitions.specs.Order as O
 use Rattle.definitions.specs.Order.{refused, toRoot, toSame, taken, full}
@@ -16,7 +16,7 @@ use Rattle.definitions.proofs.Geometry.{span-pos}
 use Rattle.demands.proofs.Pass1.Passing.{Passing}
 use Rattle.demands.proofs.Pass1.Ways.{way-one}
 use Rattle.demands.proofs.Pass1.Sequence.{earlier-total}
-use Rattle.demands.proofs.Pass1.First.{Met, partOf, Before, does, Wrong, First}
+use Rattle.demands.proofs.Pass1.First.{Met, Before, does, Wrong, First}
 
 module _ (K : Passing) where
   -- a leaf before `e` goes where `x` goes, or none does
@@ -26,15 +26,12 @@ module _ (K : Passing) where
   abbrev Free : Met K → Moved → Type 0
   Free e x = O.Free (K .old) (K .m₀) (K .paging .H) (K .paging .root) (K .act) e (x .address)
 
-  abbrev spot : Met K → Place
-  spot e = placeAt (partOf K e * span (e .l)) (e .l)
-
   -- what is wrong, by what is done
   abbrev Shape : Met K → ℕ → Place → Act → Type 0
   Shape e n q keep = ⊥
   Shape e n q (refuse n₁ q₁) = (n ≡ n₁) × (q ≡ q₁)
-  Shape e n q (follow t v) = (n ≡ 10) × (q ≡ spot e)
-  Shape e n q (move x) = (q ≡ spot e) × (((n ≡ 14) × Taken e x) ⊎ ((n ≡ 15) × Free e x))
+  Shape e n q (follow t v) = (n ≡ 10) × (q ≡ placeOf e)
+  Shape e n q (move x) = (q ≡ placeOf e) × (((n ≡ 14) × Taken e x) ⊎ ((n ≡ 15) × Free e x))
 
   shape : (e : Met K) (n : ℕ) (q : Place) → Wrong K e n q → Shape e n q (does K e)
   shape e n q (refused w) = rw w (refl, refl)
@@ -44,7 +41,7 @@ module _ (K : Passing) where
   shape e n q (full w free xs d from h z) = rw w (z, inr (refl, free))
 
   -- ---- of two entries that have one place
-  module _ (e f : Met K) (el : e .l ≡ f .l) (ep : partOf K e ≡ partOf K f) where
+  module _ (e f : Met K) (el : e .l ≡ f .l) (ep : partOf e ≡ partOf f) where
     not-free : (x : Moved) → Taken e x → ¬ Free f x
     not-free x k free = free (k .0) (k .1) (rw (el, ep) at (k .2)) (k .3) (k .4)
 
@@ -54,9 +51,9 @@ module _ (K : Passing) where
     same-shape : (a : Act) (n n₁ : ℕ) (q q₁ : Place) → Shape e n q a → Shape f n₁ q₁ a → (n ≡ n₁) × (q ≡ q₁)
     same-shape keep n n₁ q q₁ s s₁ = absurd s
     same-shape (refuse m r) n n₁ q q₁ s s₁ = (s .0 ∙ sym (s₁ .0), s .1 ∙ sym (s₁ .1))
-    same-shape (follow t v) n n₁ q q₁ s s₁ = let z : spot e ≡ spot f = rw (el, ep) refl in (s .0 ∙ sym (s₁ .0), s .1 ∙ z ∙ sym (s₁ .1))
+    same-shape (follow t v) n n₁ q q₁ s s₁ = let z : placeOf e ≡ placeOf f = rw (el, ep) refl in (s .0 ∙ sym (s₁ .0), s .1 ∙ z ∙ sym (s₁ .1))
     same-shape (move x) n n₁ q q₁ s s₁ =
-        let z : spot e ≡ spot f = rw (el, ep) refl in (
+        let z : placeOf e ≡ placeOf f = rw (el, ep) refl in (
           ⊎-elim
               (λ k. ⊎-elim (λ k₁. k .0 ∙ sym (k₁ .0)) (λ k₁. absurd (not-free x (k .1) (k₁ .1))) (s₁ .1))
               (λ k. ⊎-elim (λ k₁. absurd (not-taken x (k .1) (k₁ .1))) (λ k₁. k .0 ∙ sym (k₁ .0)) (s₁ .1))
@@ -74,10 +71,10 @@ module _ (K : Passing) where
       (λ b. absurd (F .none f b n₁ q₁ (G .wrong)))
       (λ w.
       let el : e .l ≡ f .l = w .0 in
-      let ep : partOf K e ≡ partOf K f = eq-of-mul-eq-mul-right (span (f .l)) (span-pos (f .l)) (partOf K e) (partOf K f) (rw el at (w .1)) in
+      let ep : partOf e ≡ partOf f = eq-of-mul-eq-mul-right (span (f .l)) (span-pos (f .l)) (partOf e) (partOf f) (rw el at (w .1)) in
       let pp : e .p ≡ f .p = omega (arith, e .low, f .low) in
       let ii : e .i ≡ f .i = omega (arith, e .low, f .low) in
       let et : e .t ≡ f .t = way-one K (e .way) (f .way) (ap suc el) pp in
       let ed : does K f ≡ does K e = cc in
       same-shape e f el ep (does K e) n n₁ q q₁ (shape e n q (F .wrong)) (rw ed at (shape f n₁ q₁ (G .wrong)))))
-      (earlier-total (e .l) (partOf K e) (f .l) (partOf K f))
+      (earlier-total (e .l) (partOf e) (f .l) (partOf f))

@@ -9,7 +9,7 @@ use native.Mathlib.Omega.{arith}
 use Rattle.definitions.specs.Geometry.{span, part}
 use Rattle.definitions.specs.Pass1.{Act, keep, move, follow, refuse, State}
 use Rattle.definitions.specs.Walk.{reads}
-use Rattle.definitions.specs.Demand.{first, later, remains}
+use Rattle.definitions.specs.Demand.{first, later, remains, partOf, wordOf}
 use Rattle.definitions.specs.Conditions.{bad, again, twice, taken, crowded}
 use Rattle.definitions.specs.declared.Place.{Place}
 use Rattle.definitions.proofs.Geometry.{part-first}
@@ -35,13 +35,14 @@ module _ {K : Passing} (S : Sound K) {s : State} {P : Map} (F : All K s P (λ t.
   way-seen (later {t} {l} {p} {i} {t′} w hi eo ep) hp =
       rw ep (led S s P l (p * 512 + i) (m₀ (512 * t + i)) (s .mem (512 * t + i)) t′ eo _ refl (done-of t l p i (way-seen w (omega arith)) hi _ refl))
 
-  entry-done : (a : Act) (e : Entry K a) → Done s P (e .l) (e .p * 512 + e .i) a (m₀ (512 * e .t + e .i)) (s .mem (512 * e .t + e .i))
-  entry-done a e = done-of (e .t) (e .l) (e .p) (e .i) (way-seen (e .way) (omega arith)) (e .low) a (e .acted)
+  entry-done : (a : Act) (c : Entry K a) → let e = c .entry in Done s P (e .l) (partOf e) a (m₀ (wordOf e)) (s .mem (wordOf e))
+  entry-done a c = let e = c .entry in done-of (e .t) (e .l) (e .p) (e .i) (way-seen (e .way) (omega arith)) (e .low) a (c .acted)
 
   entry-src : (a : Act) → Entry K a → Src K s P (λ t. 512) a
-  entry-src a e =
-      let c = way-seen (e .way) (omega arith) in
-      record { t = e .t; l = e .l; i = e .i; at = seen-at c (e .low); done = e .low; acted = rw (c .prefix) (e .acted) }
+  entry-src a c =
+      let e = c .entry in
+      let seen = way-seen (e .way) (omega arith) in
+      record { t = e .t; l = e .l; i = e .i; at = seen-at seen (e .low); done = e .low; acted = rw (seen .prefix) (c .acted) }
 
   pub entry-remains : (t l p i : ℕ) → Way K t (suc l) p → i < 512
       → s .mem (512 * t + i) ≡ remains (K .act l (p * 512 + i) (K .m₀ (512 * t + i))) (K .m₀ (512 * t + i))
@@ -59,7 +60,7 @@ module _ {K : Passing} (S : Sound K) {s : State} {P : Map} (F : All K s P (λ t.
   tall t st =
       ⊎-elim
       (λ e. omega (arith, ap (P .ht) e, hist .top .height, S .lawful .pos))
-      (λ r. let a = follow t (r .0) in let e = src-entry I a (r .1) in omega (arith, entry-done a e .1 .height, said S (e .l) _ _ a (e .acted) .3))
+      (λ r. let a = follow t (r .0) in let e = src-entry I a (r .1) in omega (arith, entry-done a e .1 .height, said S (e .entry .l) _ _ a (e .acted) .3))
       (hist .parent t st)
 
   pub seen-way : (t : ℕ) → s .reached t ≡ true → (l : ℕ) × (p : ℕ) × Way K t (suc l) p
@@ -76,12 +77,14 @@ module _ {K : Passing} (S : Sound K) {s : State} {P : Map} (F : All K s P (λ t.
   pub spotless : (n : ℕ) (q : Place) → ¬ Why K n q
   unfolding entry-src
   spotless n q (bad e) = entry-done (refuse n q) e
-  spotless n q (again {v} e w) = omega (arith, way-low K (e .way), entry-done (follow root v) e .1 .height, hist .top .height)
-  spotless n q (twice {t} {v} {v₁} a b ne w) =
-      let da = entry-done (follow t v) a in
-      let db = entry-done (follow t v₁) b in
+  spotless n q (again {v} e w) = omega (arith, way-low K (e .entry .way), entry-done (follow root v) e .1 .height, hist .top .height)
+  spotless n q (twice {t} {v} {v₁} c d ne w) =
+      let a = c .entry in
+      let b = d .entry in
+      let da = entry-done (follow t v) c in
+      let db = entry-done (follow t v₁) d in
       let el : suc (a .l) ≡ suc (b .l) = ap suc (sym (da .1 .height) ∙ db .1 .height) in
-      let ep : a .p * 512 + a .i ≡ b .p * 512 + b .i = sym (da .1 .prefix) ∙ db .1 .prefix in
+      let ep : partOf a ≡ partOf b = sym (da .1 .prefix) ∙ db .1 .prefix in
       let et : a .t ≡ b .t = way-one K (a .way) (b .way) el (omega (arith, a .low, b .low)) in
       ne (omega (arith, a .low, b .low))
   spotless n q (crowded a xs d from more w) = omega (arith, hist .small, within-length xs (s .moved) d (λ x e. entry-done (move x) (from x e) .1))

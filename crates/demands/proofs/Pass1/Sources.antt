@@ -46,7 +46,7 @@ pub record All (K : Passing) (s : State) (P : Map) (c : ℕ → ℕ) : Type 0 wh
 abbrev pub entry-at : {K : Passing} {s : State} {P : Map} {c : ℕ → ℕ} {t l i : ℕ} → Inv K s P c → At (s .reached) P t l i
     → (a : Act) → actAs K l (P .pre t * 512 + i) (512 * t + i) ≡ a → Entry K a
 entry-at {P = P} {t = t} {l = l} {i = i} I at a ea =
-    record { t = t; l = l; p = P .pre t; i = i; low = at .low; way = rw (at .height) at (I .reached t (at .seen)); acted = ea }
+    record { entry = record { t = t; l = l; p = P .pre t; i = i; low = at .low; way = rw (at .height) at (I .reached t (at .seen)) }; acted = ea }
 
 abbrev pub src-entry : {K : Passing} {s : State} {P : Map} {c : ℕ → ℕ} → Inv K s P c → (a : Act) → Src K s P c a → Entry K a
 src-entry I a r = entry-at I (r .at) a (r .acted)

@@ -1,17 +1,17 @@
 -- Pass 1, the ways from the root to the tables, in the tables as they were: the walk of every address of a way's part goes it (way-walk),
 -- a table stands in one place (way-one), and an entry that moves is where walks end (moved-at). Builds on Passing. Assumes nothing.
-use Prim.Native.Nat.{ℕ, zero, suc, _+_, _*_, _%_, _<_, _≤_}
+use Prim.Native.Nat.{ℕ, zero, suc, _%_, _<_, _≤_}
 use mathlib.Core.Path.{_≡_, refl, sym, _∙_, ap}
 use mathlib.Core.Option.{some}
 use mathlib.Core.List.{List·Memᴰ, List·Memᴰ·head, List·Memᴰ·tail}
 use native.Mathlib.Omega.{arith}
 use Rattle.definitions.specs.Words.{Mem}
-use Rattle.definitions.specs.Geometry.{span, part}
+use Rattle.definitions.specs.Geometry.{part}
 use Rattle.definitions.specs.Ranges.{Kind}
 use Rattle.definitions.specs.Pass1.{move}
 use Rattle.definitions.specs.Walk.{spot, onward, below, stopOf, reads}
 use Rattle.definitions.specs.Demand as T
-use Rattle.definitions.specs.Demand.{first, later}
+use Rattle.definitions.specs.Demand.{first, later, partOf, wordOf, startOf}
 use Rattle.definitions.specs.declared.Moved.{Moved}
 use Rattle.definitions.proofs.Geometry.{part-step, part-first}
 use Rattle.demands.proofs.Shared.Walks.{word, stop-cont, cont-none, cont-some}
@@ -64,11 +64,12 @@ module _ (K : Passing) where
       cc
 
   pub moved-at : Sound K → (x : Moved) → Entry K (move x) → Goes K x
-  moved-at S x r =
-      let b = (r .p * 512 + r .i) * span (r .l) in
-      let w = part-first (r .l) (r .p * 512 + r .i) in
+  moved-at S x c =
+      let r = c .entry in
+      let b = startOf r in
+      let w = part-first (r .l) (partOf r) in
       let h : part (suc (r .l)) b ≡ r .p = omega (arith, part-step (r .l) b, w, r .low) in
       let ei : part (r .l) b % 512 ≡ r .i = omega (arith, w, r .low) in
-      let none-below = cont-none old m₀ (spot (r .l) (word (r .t) (r .l) b)) b (rw ei (said S (r .l) _ _ _ (r .acted) .0)) in
-      let e : was K b ≡ spot (r .l) (512 * r .t + r .i) = way-walk (r .way) b h ∙ stop-cont old (r .l) m₀ (r .t) b ∙ none-below ∙ rw ei refl in
-      (b, way-part old m₀ H root (r .way) b h, rw (e, w) (r .acted))
+      let none-below = cont-none old m₀ (spot (r .l) (word (r .t) (r .l) b)) b (rw ei (said S (r .l) _ _ _ (c .acted) .0)) in
+      let e : was K b ≡ spot (r .l) (wordOf r) = way-walk (r .way) b h ∙ stop-cont old (r .l) m₀ (r .t) b ∙ none-below ∙ rw ei refl in
+      (b, way-part old m₀ H root (r .way) b h, rw (e, w) (c .acted))
