@@ -48,6 +48,8 @@ impl Case {
 pub struct Class {
     /// What was called, and our number.
     pub ours: String,
+    /// Which rule was broken, where the number has several.
+    pub rule: &'static str,
     /// What else takes the job out of the shared domain.
     pub also: Vec<&'static str>,
     /// What the original did.
@@ -82,12 +84,40 @@ fn theirs_of(what: &str) -> String {
     }
 }
 
+/// The first rule of the number that the job breaks.
+fn rule(job: &Job, number: u64) -> &'static str {
+    let to = job.gpa as i128 + job.table_offset as i128;
+    let any = |bad: &dyn Fn(&(u64, u64, i64)) -> bool| job.ranges.iter().any(bad);
+    let rules: &[(bool, &str)] = match number {
+        1 => &[
+            (job.gpa % 4096 != 0, "gpa"),
+            (job.size % 4096 != 0, "size"),
+            (job.used % 4096 != 0, "used"),
+            (job.used > job.size, "used above size"),
+            (job.size == 0, "empty"),
+            (job.size > 512 * 4096, "many"),
+            (true, "past 2^48"),
+        ],
+        7 => &[(job.table_offset % 4096 != 0, "no whole pages"), (to < 0, "below 0"), (true, "past 2^48")],
+        8 => &[
+            (job.ranges.len() > 1024, "many"),
+            (any(&|r| r.0 > r.1), "first above last"),
+            (any(&|r| r.1 >= document::LIMIT), "past 2^48"),
+            (any(&|r| r.0 < job.gpa + job.size && r.1 >= job.gpa), "over the region"),
+            (true, "not ascending"),
+        ],
+        _ => &[(true, "")],
+    };
+    rules.iter().find(|r| r.0).map_or("", |r| r.1)
+}
+
 /// How the first load that differs does, and how the build does.
 pub fn classes(job: &Job, mine: &Ours, theirs: &Answer) -> Vec<Class> {
     let mut found = Vec::new();
     let load = mine.loads.iter().zip(&theirs.loads).find(|(a, b)| **b != Ok(**a));
     if let (Some((n, _)), Some(what)) = (load, load_difference(mine, theirs)) {
-        found.push(Class { ours: format!("load: ours {n}"), also: Vec::new(), theirs: theirs_of(&what) });
+        let (rule, also) = (rule(job, *n), Vec::new());
+        found.push(Class { ours: format!("load: ours {n}"), rule, also, theirs: theirs_of(&what) });
     }
     let number = mine.number();
     let not_walked = [1, 4, 5, 7, 8].contains(&number);
@@ -100,7 +130,7 @@ pub fn classes(job: &Job, mine: &Ours, theirs: &Answer) -> Vec<Class> {
         if !not_walked && !document::touched_once(job, &jobs::words(&mine.image)) {
             also.push("two ranges");
         }
-        found.push(Class { ours: format!("build: ours {number}"), also, theirs: theirs_of(&what) });
+        found.push(Class { ours: format!("build: ours {number}"), rule: rule(job, number), also, theirs: theirs_of(&what) });
     }
     found
 }

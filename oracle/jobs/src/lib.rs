@@ -155,7 +155,8 @@ pub fn print(job: &Job) -> String {
     s
 }
 
-/// Reads a job in the text form; a line that starts with # is skipped.
+/// Reads a job in the text form. A line that starts with # is skipped; `ranges COUNT FIRST` is so many ranges of one address each,
+/// with offset 0.
 pub fn parse(text: &str) -> Result<Job, String> {
     let mut job = Job::default();
     for (n, line) in text.lines().enumerate() {
@@ -187,6 +188,10 @@ pub fn parse(text: &str) -> Result<Job, String> {
                 job.loads.push(Load { gpa, data });
             }
             Some("range") => job.ranges.push((hex(w.next())?, hex(w.next())?, hex(w.next())? as i64)),
+            Some("ranges") => {
+                let (many, first) = (hex(w.next())?, hex(w.next())?);
+                job.ranges.extend((first..).take(many as usize).map(|a| (a, a, 0)));
+            }
             Some("no") if w.next() == Some("scratch") => job.no_scratch = true,
             Some("build") => {
                 job.cr3 = hex(w.next())?;
@@ -194,7 +199,7 @@ pub fn parse(text: &str) -> Result<Job, String> {
                 job.table_offset = hex(w.next())? as i64;
                 return Ok(job);
             }
-            Some(_) => return Err(bad("region, image, load, range, no scratch or build expected")),
+            Some(_) => return Err(bad("region, image, load, range, ranges, no scratch or build expected")),
         }
     }
     Err("no build".into())

@@ -12,7 +12,7 @@ fn takes(c: &Class) -> bool {
 }
 
 /// The rows that explain a class: rows of that class; or rows where the original does not look at what we refuse, and then what it
-/// does with such a job; or the rows of what else takes the job out of the domain.
+/// does with such a job; or rows of another rule with that number; or the rows of what else takes the job out of the domain.
 fn explained(c: &Class, rows: &[(String, Class)]) -> Option<String> {
     let list = |keep: &dyn Fn(&Class) -> bool| {
         let names: Vec<&str> = rows.iter().filter(|r| keep(&r.1)).map(|r| r.0.as_str()).collect();
@@ -20,12 +20,14 @@ fn explained(c: &Class, rows: &[(String, Class)]) -> Option<String> {
     };
     let plain = Class { also: Vec::new(), ..c.clone() };
     let next = || if c.theirs.starts_with("panics") { list(&|r| r.theirs == c.theirs) } else { Some(c.theirs.clone()) };
-    let goes_on = || Some(format!("{}, then {}", list(&|r| r.ours == c.ours && r.also.is_empty() && takes(r))?, next()?));
+    let unseen = || list(&|r| r.ours == c.ours && r.rule == c.rule && r.also.is_empty() && takes(r));
+    let alike = || Some(format!("as {}", list(&|r| r.ours == c.ours && r.also.is_empty() && r.theirs == c.theirs)?));
     let other = || {
         let each = c.also.iter().map(|a| list(&|r| r.ours == "build: ours 0" && r.also == [*a]));
         each.collect::<Option<Vec<_>>>().filter(|l| !l.is_empty()).map(|l| format!("as {}", l.join(" ")))
     };
-    list(&|r| r == c).or_else(|| list(&|r| *r == plain)).or_else(goes_on).or_else(other)
+    let same = list(&|r| r == c).or_else(|| list(&|r| *r == plain));
+    same.or_else(|| Some(format!("{}, then {}", unseen()?, next()?))).or_else(alike).or_else(other)
 }
 
 /// The number of classes that no row explains; `only` shows that job instead.
@@ -73,10 +75,11 @@ pub fn compare(file: &str, count: u64, seed: u64, only: Option<u64>) -> u64 {
             bare += 1;
             "NO ROW".into()
         });
-        let also: String = c.also.iter().map(|a| format!(" ({a})")).collect();
-        println!("{n:7} x {}{also}, the original {}: {by} [job {own}]", c.ours, c.theirs);
+        let why: String = std::iter::once(&c.rule).chain(&c.also).filter(|a| !a.is_empty()).map(|a| format!(" ({a})")).collect();
+        println!("{n:7} x {}{why}, the original {}: {by} [job {own}]", c.ours, c.theirs);
     }
     let many = found.len();
-    println!("outside the shared domain: {left} jobs of {jobs_run}, {same} answered alike, {many} classes of differences, {bare} with no row");
+    print!("outside the shared domain: {left} jobs of {jobs_run}, {same} answered alike, ");
+    println!("{many} classes of differences, {bare} with no row");
     bare
 }
