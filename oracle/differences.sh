@@ -9,5 +9,10 @@ if [ "${1:-}" = record ]; then
     run checked differences "$out/half.txt" record
     exit
 fi
+rows() { grep -o "^$1 D[0-9]*" "$2" | grep -o 'D.*' | sort; }
+diff <(rows '|' ../docs/DIFFERENCES.md) <(rows '#' differences.txt) || {
+    echo "differences: not every row has its input, or not every input its row"
+    exit 1
+}
 run release differences differences.txt
 run checked differences differences.txt

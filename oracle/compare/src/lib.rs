@@ -1,5 +1,7 @@
 //! The proved code's answers to jobs, and where they differ from the original's.
 
+pub mod classes;
+
 use archwend::{build_in, set_page_data_in, CpuPagingState, Error, Region, Report};
 use jobs::{document, Answer, Built, Job};
 
@@ -20,7 +22,7 @@ impl Ours {
 /// Runs a job through the proved code, with a scratch for so many leaves; the lent buffers start full of other bytes.
 pub fn ours(job: &Job, room: usize) -> Ours {
     let region = Region { gpa: job.gpa, size: job.size, used: job.used };
-    let mut image = vec![0; job.used.min(1 << 22) as usize];
+    let mut image = vec![0; job.image.unwrap_or(job.used).min(1 << 22) as usize];
     let mut wrong = None;
     let mut loads = Vec::new();
     let mut before = image.clone();
@@ -63,16 +65,19 @@ pub fn in_shared_domain(job: &Job, ours: &Ours) -> bool {
 
 /// What differs between the two answers, if anything does.
 pub fn difference(ours: &Ours, theirs: &Answer) -> Option<String> {
-    if ours.loads.len() != theirs.loads.len() {
-        return Some("new: the original panics".into());
-    }
-    for (i, (a, b)) in ours.loads.iter().zip(&theirs.loads).enumerate() {
-        match b {
-            Ok(n) if n == a => {}
-            Ok(n) => return Some(format!("load {i}: ours {a}, the original {n}")),
-            Err(m) => return Some(format!("load {i}: ours {a}, the original panics: {m}")),
-        }
-    }
+    load_difference(ours, theirs).or_else(|| build_difference(ours, theirs))
+}
+
+/// What differs in the first load that differs. Where the original's `new` panics it has no loads.
+pub fn load_difference(ours: &Ours, theirs: &Answer) -> Option<String> {
+    let (i, (a, b)) = ours.loads.iter().zip(&theirs.loads).enumerate().find(|(_, (a, b))| **b != Ok(**a))?;
+    Some(match b {
+        Ok(n) => format!("load {i}: ours {a}, the original {n}"),
+        Err(m) => format!("load {i}: ours {a}, the original panics: {m}"),
+    })
+}
+
+pub fn build_difference(ours: &Ours, theirs: &Answer) -> Option<String> {
     let place = |e: &Error| (e.place.address, document::span(e.place.level as usize), e.place.offset);
     match (&ours.built, &theirs.built) {
         (Ok((r, bytes)), Built::Tables { bytes: b, merged }) => {

@@ -30,6 +30,8 @@ pub struct Job {
     pub table_offset: i64,
     /// Whether the proved code gets a scratch of no words; the original has none.
     pub no_scratch: bool,
+    /// The image's length where it is not `used`. The original makes the image in `new`; its field `used_size` is set after that.
+    pub image: Option<u64>,
 }
 
 /// What a load answered: its number, or the panic's message.
@@ -76,7 +78,7 @@ fn message(e: Box<dyn std::any::Any + Send>) -> String {
         Some(s) => s.to_string(),
         None => e.downcast_ref::<String>().cloned().unwrap_or_default(),
     };
-    text.lines().next().unwrap_or("").to_string()
+    text.lines().map(str::trim).collect::<Vec<_>>().join(", ")
 }
 
 fn refused(e: Error) -> (u64, Option<(u64, u64, i64)>) {
@@ -95,10 +97,12 @@ fn refused(e: Error) -> (u64, Option<(u64, u64, i64)>) {
 pub fn run(job: &Job) -> Answer {
     let mut loads = Vec::new();
     original::take_warnings();
-    let mut b = match catch_unwind(|| PageTableRelocationBuilder::new(job.gpa, job.size, job.used, 0, Vtl::Vtl0)) {
+    let length = job.image.unwrap_or(job.used);
+    let mut b = match catch_unwind(|| PageTableRelocationBuilder::new(job.gpa, job.size, length, 0, Vtl::Vtl0)) {
         Ok(b) => b,
         Err(e) => return Answer { loads, built: Built::Panic(message(e)) },
     };
+    b.used_size = job.used;
     for l in &job.loads {
         loads.push(match catch_unwind(AssertUnwindSafe(|| b.set_page_data(l.gpa, &l.data))) {
             Ok(Ok(())) => Ok(0),
@@ -131,9 +135,13 @@ fn sparse(bytes: &[u8]) -> String {
     s
 }
 
-/// The text form: hexadecimal, one line a step, offsets as words; `no scratch` where there is none; `build` ends a job.
+/// The text form: hexadecimal, one line a step, offsets as words; `image` where its length is not `used`; `no scratch` where there
+/// is none; `build` ends a job.
 pub fn print(job: &Job) -> String {
     let mut s = format!("region {:x} {:x} {:x}\n", job.gpa, job.size, job.used);
+    if let Some(length) = job.image {
+        writeln!(s, "image {length:x}").unwrap();
+    }
     for l in &job.loads {
         writeln!(s, "load {:x} {:x}{}", l.gpa, l.data.len(), sparse(&l.data)).unwrap();
     }
@@ -147,7 +155,8 @@ pub fn print(job: &Job) -> String {
     s
 }
 
-/// Reads a job in the text form; a line that starts with # is skipped.
+/// Reads a job in the text form. A line that starts with # is skipped; `ranges COUNT FIRST` is so many ranges of one address each,
+/// with offset 0.
 pub fn parse(text: &str) -> Result<Job, String> {
     let mut job = Job::default();
     for (n, line) in text.lines().enumerate() {
@@ -163,6 +172,7 @@ pub fn parse(text: &str) -> Result<Job, String> {
             Some("region") => {
                 job = Job { gpa: hex(w.next())?, size: hex(w.next())?, used: hex(w.next())?, ..Job::default() };
             }
+            Some("image") => job.image = Some(hex(w.next())?),
             Some("load") => {
                 let (gpa, len) = (hex(w.next())?, hex(w.next())? as usize);
                 if len > 1 << 21 {
@@ -178,6 +188,10 @@ pub fn parse(text: &str) -> Result<Job, String> {
                 job.loads.push(Load { gpa, data });
             }
             Some("range") => job.ranges.push((hex(w.next())?, hex(w.next())?, hex(w.next())? as i64)),
+            Some("ranges") => {
+                let (many, first) = (hex(w.next())?, hex(w.next())?);
+                job.ranges.extend((first..).take(many as usize).map(|a| (a, a, 0)));
+            }
             Some("no") if w.next() == Some("scratch") => job.no_scratch = true,
             Some("build") => {
                 job.cr3 = hex(w.next())?;
@@ -185,7 +199,7 @@ pub fn parse(text: &str) -> Result<Job, String> {
                 job.table_offset = hex(w.next())? as i64;
                 return Ok(job);
             }
-            Some(_) => return Err(bad("region, load, range, no scratch or build expected")),
+            Some(_) => return Err(bad("region, image, load, range, ranges, no scratch or build expected")),
         }
     }
     Err("no build".into())

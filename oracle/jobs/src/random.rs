@@ -1,7 +1,10 @@
 //! Random jobs.
 
+mod outside;
+
 use crate::document::*;
 use crate::{bytes, Job, Load};
+pub use outside::outside;
 
 /// splitmix64
 pub struct Random(pub u64);
@@ -49,6 +52,10 @@ struct Draft<'a> {
 }
 
 impl Draft<'_> {
+    fn new(r: &mut Random) -> Draft<'_> {
+        Draft { r, job: Job::default(), image: Vec::new(), nodes: Vec::new(), likes: Vec::new() }
+    }
+
     /// Bits outside the address field, present; bit 7 as told.
     fn flags(&mut self, large: bool) -> u64 {
         let some = if self.r.percent(60) { 0x63 } else { (self.r.word() & !FIELD) | 1 };
@@ -280,10 +287,23 @@ impl Draft<'_> {
         }
     }
 
+    /// Where the way to an address ends, at the level or above it: the place among the words, and its level.
+    fn end_of_way(&self, to: u64, level: usize) -> (usize, usize) {
+        let (mut table, mut l) = (self.nodes[0].table, 3);
+        loop {
+            let place = 512 * table + index(to, l);
+            let e = self.image[place];
+            let below = (e & FIELD).wrapping_sub(self.job.gpa) as usize / 4096;
+            if l == level || !is_pointer(e, l) || below >= self.image.len() / 512 {
+                return (place, l);
+            }
+            (table, l) = (below, l - 1);
+        }
+    }
+
     /// Puts entries where moved leaves come to stand: the same one to be merged, rarely another.
     fn plant(&mut self) {
         let all = leaves(&self.job, &self.image);
-        let root = (self.job.cr3 - self.job.gpa) as usize / 4096;
         for (a, level, at) in all {
             let end = a + (span(level) - 1);
             let hit = self.job.ranges.iter().find(|r| r.0 <= end && r.1 >= a);
@@ -295,17 +315,7 @@ impl Draft<'_> {
                 continue;
             }
             let to = a + offset;
-            let (mut table, mut l) = (root, 3);
-            while l > level {
-                let e = self.image[512 * table + index(to, l)];
-                let inside = (e & FIELD) >= self.job.gpa && (e & FIELD) - self.job.gpa < self.job.used;
-                if !is_pointer(e, l) || !inside {
-                    break;
-                }
-                table = ((e & FIELD) - self.job.gpa) as usize / 4096;
-                l -= 1;
-            }
-            let slot = 512 * table + index(to, l);
+            let (slot, l) = self.end_of_way(to, level);
             if l == level && self.image[slot] & 1 == 0 {
                 self.image[slot] = (self.image[at] & !FIELD) | to;
                 if self.r.percent(3) {
@@ -321,7 +331,7 @@ impl Draft<'_> {
         let gpa = self.job.gpa;
         let wrong = self.r.percent(30);
         for (i, page) in pages.iter().enumerate() {
-            let here = gpa + 4096 * i as u64;
+            let here = gpa.wrapping_add(4096 * i as u64);
             if wrong && self.r.percent(25) {
                 let load = self.strange(here);
                 self.job.loads.push(load);
@@ -332,7 +342,7 @@ impl Draft<'_> {
         }
         if self.r.percent(20) {
             let i = self.r.below(pages.len() as u64);
-            self.job.loads.push(Load { gpa: gpa + 4096 * i, data: Vec::new() });
+            self.job.loads.push(Load { gpa: gpa.wrapping_add(4096 * i), data: Vec::new() });
         }
         if wrong {
             let load = self.strange(gpa);
@@ -343,7 +353,8 @@ impl Draft<'_> {
     /// A load that is refused, or one that a later load covers.
     fn strange(&mut self, here: u64) -> Load {
         let (gpa, size) = (self.job.gpa, self.job.size);
-        let away = self.r.of(&[gpa.wrapping_sub(4096), gpa + size, gpa + size + 4096, 0, LIMIT, 1 << 63, u64::MAX - 4095]);
+        let end = gpa.wrapping_add(size);
+        let away = self.r.of(&[gpa.wrapping_sub(4096), end, end.wrapping_add(4096), 0, LIMIT, 1 << 63, u64::MAX - 4095]);
         match self.r.below(5) {
             0 => Load { gpa: here, data: vec![0x5a; self.r.of(&[1, 8, 4095, 4097, 8192, 512])] },
             1 => Load { gpa: away, data: vec![0x5a; self.r.of(&[1, 4095, 4097])] },
@@ -368,7 +379,7 @@ impl Draft<'_> {
                 3 => self.image[at] = self.r.word(),
                 _ => {
                     let i = self.r.below(self.image.len() as u64) as usize;
-                    self.image[i] = self.flags(false) | (self.job.gpa + 4096 * self.r.below(self.job.size / 4096 + 2));
+                    self.image[i] = self.flags(false) | self.job.gpa.wrapping_add(4096 * self.r.below(self.job.size / 4096 + 2));
                 }
             }
         }
@@ -410,7 +421,7 @@ impl Draft<'_> {
 
 /// A job: mostly good, some damaged. `large` is for trees of hundreds of tables.
 pub fn job(r: &mut Random, large: bool) -> Job {
-    let mut d = Draft { r, job: Job::default(), image: Vec::new(), nodes: Vec::new(), likes: Vec::new() };
+    let mut d = Draft::new(r);
     d.region(large);
     d.tree();
     d.ranges();

@@ -1,10 +1,10 @@
 //! differences FILE [record]: runs the recorded inputs outside the shared domain through both, and compares with what is
 //! recorded: `ours`, and `wraps` or `checks` for the original in this build. `record` prints the file with today's answers.
 
-use compare::ours;
-use jobs::{parse, run, show, Answer, Built};
+use compare::classes::{recorded, WHO};
+use compare::Ours;
+use jobs::{run, show, Answer, Built};
 use original::page_table::{PageTable, PageTableEntryType as Kind};
-use std::collections::BTreeMap;
 use std::panic::{catch_unwind, AssertUnwindSafe};
 use zerocopy::{FromZeros, IntoBytes};
 
@@ -20,8 +20,7 @@ fn line(a: &Answer) -> String {
     kept.collect::<Vec<_>>().join("; ")
 }
 
-fn our_line(job: &jobs::Job) -> String {
-    let o = ours(job, if job.no_scratch { 0 } else { 1000 });
+fn our_line(o: &Ours) -> String {
     let loads = o.loads.iter().map(|n| Ok(*n)).collect();
     let tail = match &o.built {
         Ok((r, bytes)) => return line(&Answer { loads, built: Built::Tables { bytes: bytes.clone(), merged: r.merged } }),
@@ -35,52 +34,33 @@ fn our_line(job: &jobs::Job) -> String {
 
 fn main() {
     let args: Vec<String> = std::env::args().collect();
-    let text = std::fs::read_to_string(&args[1]).expect("the file of cases");
     let record = args.iter().any(|a| a == "record");
     jobs::quiet();
     let mut failed = 0;
     let mut cases = 0;
-    for case in text.split("\n\n").filter(|c| c.contains("\nregion ")) {
-        let (mut input, mut expected) = (String::new(), BTreeMap::new());
-        for l in case.lines() {
-            match l.split_once(' ') {
-                Some((key @ ("ours" | "wraps" | "checks"), what)) => drop(expected.insert(key, what.to_string())),
-                _ => input += &format!("{l}\n"),
-            }
-        }
-        let job = parse(&input).expect("a job");
+    for case in recorded(&args[1]) {
         cases += 1;
+        let (input, expected) = (&case.input, &case.expected);
         let mut got = expected.clone();
-        got.insert("ours", our_line(&job));
-        got.insert(THIS, line(&run(&job)));
+        got.insert("ours", our_line(&case.ours()));
+        got.insert(THIS, line(&run(&case.job)));
         if record {
             print!("{input}");
-            ["ours", "wraps", "checks"].iter().for_each(|k| println!("{k} {}", got.get(*k).map_or("", |s| s)));
+            WHO.iter().for_each(|k| println!("{k} {}", got.get(*k).map_or("", |s| s)));
             println!();
         }
         for (k, v) in &got {
             if !record && expected.get(k) != Some(v) {
                 failed += 1;
-                println!("{case}\nDIFFERENT NOW: {k} {v}\n");
+                println!("{input}DIFFERENT NOW: {k} {v}\n");
             }
         }
     }
     if !record {
-        failed += entries() + many();
-        println!("differences ({THIS}): {cases} inputs, 1,025 ranges and the entry operations run, {failed} not as recorded");
+        failed += entries();
+        println!("differences ({THIS}): {cases} inputs and the entry operations run, {failed} not as recorded");
     }
     std::process::exit((failed != 0) as i32);
-}
-
-/// More ranges than document 01 takes.
-fn many() -> u32 {
-    let ranges = (0..1025).map(|i| (0x20_0000 + i, 0x20_0000 + i, 0)).collect();
-    let job = jobs::Job { gpa: 0, size: 4096, used: 4096, ranges, ..Default::default() };
-    let same = our_line(&job) == "build 8" && line(&run(&job)) == "build 0 used 1000 merged 0";
-    if !same {
-        println!("DIFFERENT NOW: 1,025 ranges");
-    }
-    !same as u32
 }
 
 /// Entry operations outside the shared domain; the library exports none, so only the original is run.

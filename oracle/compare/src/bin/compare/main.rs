@@ -1,5 +1,6 @@
-//! compare COUNT SEED [outside]: random jobs through both, until COUNT of them were in the shared domain.
-//! `outside` also lists how the two differ outside of it.
+//! compare COUNT SEED: random jobs through both, until COUNT of them were in the shared domain.
+//! compare COUNT SEED FILE [JOB]: random jobs until COUNT of them were outside of it, sorted by how the two differ, each class with
+//! the rows of FILE that explain it; with JOB that job alone, and both answers.
 
 use compare::{difference, in_shared_domain, ours};
 use jobs::random::{job, Random};
@@ -7,6 +8,7 @@ use jobs::{print, run, show};
 use std::collections::BTreeMap;
 
 mod entries;
+mod outside;
 
 /// How many in this many jobs have hundreds of tables.
 const LARGE_EVERY: u64 = 150;
@@ -15,13 +17,15 @@ fn main() {
     let args: Vec<String> = std::env::args().collect();
     let number = |i: usize, default: u64| args.get(i).and_then(|s| s.parse().ok()).unwrap_or(default);
     let (count, seed) = (number(1, 1000), number(2, 1));
-    let outside = args.iter().any(|a| a == "outside");
     let build = if env!("OVERFLOW") == "checks" { "checks overflow" } else { "wraps" };
     jobs::quiet();
     println!("page_table.rs {} in a build that {build}; seed {seed}", original::PAGE_TABLE);
+    if let Some(file) = args.get(3) {
+        let bad = outside::compare(file, count, seed, args.get(4).and_then(|s| s.parse().ok()));
+        std::process::exit((bad != 0) as i32);
+    }
     let mut builds: BTreeMap<u64, u64> = BTreeMap::new();
     let mut loads: BTreeMap<u64, u64> = BTreeMap::new();
-    let mut others: BTreeMap<String, (u64, u64)> = BTreeMap::new();
     let (mut shared, mut merged, mut moved, mut jobs_run, mut differ, mut large) = (0, 0, 0, 0, 0, 0);
     while shared < count {
         let own = seed.wrapping_mul(1 << 32).wrapping_add(jobs_run);
@@ -50,14 +54,7 @@ fn main() {
                 differ += 1;
                 println!("DIFFERENCE in job {own}: {what}\n{}# the original:\n{}", print(&j), show(&theirs));
             }
-        } else if outside {
-            let what = what.unwrap_or_else(|| format!("build: both {}", mine.number()));
-            let e = others.entry(what.split(", the").next().unwrap().to_string() + &short(&what)).or_insert((0, own));
-            e.0 += 1;
         }
-    }
-    for (what, (n, own)) in &others {
-        println!("outside: {n:7} x {what} (job {own})");
     }
     let wrong = entries::compare(&mut Random(seed), count.max(1000));
     let list = |m: &BTreeMap<u64, u64>| m.iter().map(|(n, c)| format!("{n}: {c}")).collect::<Vec<_>>().join(", ");
@@ -71,10 +68,4 @@ fn main() {
     if differ + wrong != 0 {
         std::process::exit(1);
     }
-}
-
-/// What the original did, without its numbers.
-fn short(what: &str) -> String {
-    let tail = what.split_once(", the").map_or("", |t| t.1);
-    format!(", the{}", tail.chars().filter(|c| !c.is_ascii_digit()).collect::<String>())
 }
