@@ -1,1 +1,3 @@
 pub mod One
+-- what a caller may rely on
+pub mod Headlines

@@ -6,5 +6,3 @@ mod Handing
 mod Ending
 -- one outcome
 pub mod One
--- for a caller: the contract joined with the theorems
-pub mod Theorems

@@ -1,30 +1,33 @@
--- The bytes of an accepted build's output: their words are the words that demand 3 speaks of (output-words), so its walks are
--- walks in the buffer (after-in). Builds on Both. Assumes nothing.
-use Prim.Native.Nat.{ℕ, _+_, _*_, _/_, _%_, _^_, _<_}
-use mathlib.Core.Path.{_≡_, refl}
+-- The bytes of an accepted build's output: their words are the words that demand 3 speaks of (output-words, words-in), so its
+-- walks are walks in the buffer (after-in, reads-in); the used length is whole tables within the region (used-whole,
+-- used-inside). Builds on Both. Assumes nothing.
+use Prim.Native.Nat.{ℕ, _+_, _*_, _/_, _%_, _^_, _≤_, _<_}
+use mathlib.Core.Path.{_≡_, refl, ap, _∙_}
 use mathlib.Core.List.{List, List·Memᴰ}
 use mathlib.Core.Logic.{⊎-elim}
 use native.Mathlib.Decide.{decLe}
 use native.Mathlib.Omega.{arith}
-use Rattle.definitions.specs.Words.{wordsOf}
+use lib.ListN.{length}
+use Rattle.definitions.specs.Words.{wordsOf, bytesOf}
 use Rattle.definitions.specs.Geometry.{span}
 use Rattle.definitions.specs.Entry.{freshTable}
 use Rattle.definitions.specs.Inputs.{Job}
 use Rattle.definitions.specs.Ranges.{kind, tableAddress, usedTables, allTables}
 use Rattle.definitions.specs.Pass1.{Act, keep, move, follow, refuse}
 use Rattle.definitions.specs.Build.{geometry, height, root, planOf, build, outputBytes}
-use Rattle.definitions.specs.Walk.{walk}
-use Rattle.definitions.specs.Demand.{Proper, after, entryBefore, actAt, remains}
+use Rattle.definitions.specs.Walk.{reads, walk}
+use Rattle.definitions.specs.Demand.{Proper, after, readsAfter, entryBefore, actAt, remains}
 use Rattle.definitions.specs.declared.Moved.{Moved}
 use Rattle.definitions.proofs.Entry.{address-word, leaf-word}
 use Rattle.definitions.proofs.Splits.{onBool}
 use Rattle.definitions.proofs.Ranges.{region-sound}
 use Rattle.definitions.proofs.Acts.{Means, act-means}
+use Rattle.definitions.proofs.Words.{length-bytes}
 use Rattle.definitions.proofs.Buffers.{words-bytes}
 use Rattle.demands.proofs.Pass2.Leaf.{Puts}
 use Rattle.demands.proofs.Both.Sound.{paging, plan-is, moved-pointer, new-table}
 use Rattle.demands.proofs.Both.Bridge.{moved, old}
-use Rattle.demands.proofs.Both.Outcome.{Ran, accepts, accepted-output}
+use Rattle.demands.proofs.Both.Outcome.{Ran, accepts, accepted-used, accepted-output}
 use Rattle.demands.proofs.Both.Left.{used-fits}
 
 module _ (j : Job) (proper : Proper j) (R : Ran j (build j)) where
@@ -82,8 +85,34 @@ output-words j proper zero-number =
     let R = accepts j proper zero-number in
     rw (accepted-output j R) (words-bytes (j .outputLength) (R .f .mem) (word j proper R) (past j proper R))
 
--- the walks of demand 3 are walks in the bytes that the build leaves
-pub after-in : (j : Job) → Proper j → build j .report .number ≡ 0 → (out : List ℕ) → out ≡ outputBytes j → (a : ℕ)
-    → after j a ≡ walk (kind (planOf j .new)) (height j) (wordsOf out) (root j) a
-unfolding after
-after-in j proper zero-number out e a = rw (e, output-words j proper zero-number) refl
+pub output-length : (j : Job) → length (outputBytes j) ≡ j .outputLength
+unfolding outputBytes bytesOf
+output-length j = length-bytes (j .outputLength) 0 (build j .output)
+
+-- of a proper job that is accepted, and bytes equal to its output's
+module _ (j : Job) (proper : Proper j) (yes : build j .report .number ≡ 0) (out : List ℕ) (same : out ≡ outputBytes j) where
+  -- their words are those that demand 3 speaks of
+  pub words-in : wordsOf out ≡ build j .output
+  words-in = ap wordsOf same ∙ output-words j proper yes
+
+  -- its walks are walks in these bytes
+  pub after-in : (a : ℕ) → after j a ≡ walk (kind (planOf j .new)) (height j) (wordsOf out) (root j) a
+  unfolding after
+  after-in a = rw words-in refl
+
+  -- and so are the tables that they read
+  pub reads-in : (a : ℕ) → readsAfter j a ≡ reads (kind (planOf j .new)) (height j) (wordsOf out) (root j) a
+  unfolding readsAfter
+  reads-in a = rw words-in refl
+
+-- the new used length is whole tables, within the region, and that within the output
+module _ (j : Job) (proper : Proper j) (yes : build j .report .number ≡ 0) where
+  R : Ran j (build j)
+  R = accepts j proper yes
+
+  pub used-whole : build j .report .used % 4096 ≡ 0
+  used-whole = omega (arith, accepted-used j R)
+
+  pub used-inside : (build j .report .used ≤ j .region .size) × (j .region .size ≤ j .outputLength)
+  unfolding allTables
+  used-inside = (omega (arith, accepted-used j R, plan-is j .size, R .filled .fits (used-fits j (R .good))), R .good .output)
