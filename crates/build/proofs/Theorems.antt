@@ -54,7 +54,7 @@ module _ (c : Call) (p : Report) (out scratch : List ℕ) (b : Builds (asked c) 
   accepts : build (asked c) .report .number ≡ 0
   accepts = sym (ap (λ (r : Report). r .number) (b .report)) ∙ yes
 
-  -- demand 3 holds
+  -- §2.7 to §2.11 hold
   pub call-rebuilt : Rebuilt (asked c)
   call-rebuilt = rebuilt (asked c) (proper c) accepts
 

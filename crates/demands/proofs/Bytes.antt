@@ -1,4 +1,4 @@
--- The bytes of an accepted build's output: their words are the words that demand 3 speaks of (output-words), so its walks are
+-- The bytes of an accepted build's output: their words are the words that Rebuilt speaks of (output-words), so its walks are
 -- walks in the buffer (after-in). Builds on Both. Assumes nothing.
 use Prim.Native.Nat.{ℕ, _+_, _*_, _/_, _%_, _^_, _<_}
 use mathlib.Core.Path.{_≡_, refl}
@@ -82,7 +82,7 @@ output-words j proper zero-number =
     let R = accepts j proper zero-number in
     rw (accepted-output j R) (words-bytes (j .outputLength) (R .f .mem) (word j proper R) (past j proper R))
 
--- the walks of demand 3 are walks in the bytes that the build leaves
+-- the walks of Rebuilt are walks in the bytes that the build leaves
 pub after-in : (j : Job) → Proper j → build j .report .number ≡ 0 → (out : List ℕ) → out ≡ outputBytes j → (a : ℕ)
     → after j a ≡ walk (kind (planOf j .new)) (height j) (wordsOf out) (root j) a
 unfolding after

@@ -72,7 +72,7 @@ fn main() {
     std::process::exit((failed != 0) as i32);
 }
 
-/// More ranges than document 01 takes.
+/// More ranges than the specification takes.
 fn many() -> u32 {
     let ranges = (0..1025).map(|i| (0x20_0000 + i, 0x20_0000 + i, 0)).collect();
     let job = jobs::Job { gpa: 0, size: 4096, used: 4096, ranges, ..Default::default() };
