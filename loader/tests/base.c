@@ -1,4 +1,4 @@
-/* Builds document 01's base example over include/archwend.h: the 2 MiB page at 0x200000 moves up by 2 MiB. */
+/* Builds the specification's base example over include/archwend.h: the 2 MiB page at 0x200000 moves up by 2 MiB. */
 #include "archwend.h"
 #include <stdio.h>
 #include <string.h>

@@ -1,4 +1,4 @@
-//! Document 01's checked examples, each refusal, and buffers too short, through the public calls.
+//! The specification's examples, each refusal, and buffers too short, through the public calls.
 
 use archwend::*;
 

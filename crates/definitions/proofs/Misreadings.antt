@@ -1,5 +1,5 @@
--- What demand 3 takes from single steps, and document 01's readings that look right and are not. Each is what an edit of
--- must-fail/ breaks. Assumes nothing.
+-- What the theorems take from single steps, and the readings that look right and are not (section 13 of the specification).
+-- Each is what an edit of must-fail/ breaks. Assumes nothing.
 use mathlib.Core.Path.{_≡_, refl}
 use mathlib.Core.Bool.{Bool, true, false, not, cond}
 use Prim.Native.Nat.{ℕ, zero, suc, _<_}

@@ -1,4 +1,4 @@
--- What an offset word means: a signed whole number, from -2^63 to 2^63 - 1, in two's complement.
+-- What an offset word means, §5.1: "a signed whole number, in two's complement: from -2^63 to 2^63 - 1".
 -- Assumes nothing.
 use mathlib.Core.Path.{_≡_}
 use mathlib.Core.Bool.{cond}

@@ -1,7 +1,7 @@
 -- Pass 1, in reading order. It does not speak of pass 2.
 
 -- What is said of it.
--- Visit: pass 1 by parts of the addresses, which is document 01's walk of the tables
+-- Visit: pass 1 by parts of the addresses, which is the definition's walk of the tables
 pub mod Visit
 -- Passing: what it is given, what it leaves (Fixed), why it refuses (Why)
 pub mod Passing

@@ -1,4 +1,4 @@
-// Document 01's checked examples through the build, on bytes. One line each: the offset of the one range, what differs from
+// The specification's examples through the build, on bytes. One line each: the offset of the one range, what differs from
 // the base, the report, and each entry of the output that differs from the image.
 use build::CpuPagingState;
 use definitions::Region;

@@ -1,4 +1,4 @@
-//! A few lines that state document 01: entries, and which jobs are in the domain shared with the Rust.
+//! A few lines that state the specification: entries, and which jobs are in the domain shared with the Rust.
 
 use crate::Job;
 

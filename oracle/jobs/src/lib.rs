@@ -41,7 +41,7 @@ pub type Loaded = Result<u64, String>;
 #[derive(Clone, Debug, PartialEq)]
 pub enum Built {
     Tables { bytes: Vec<u8>, merged: u64 },
-    /// The number of document 01, and for 12 the address, mapped size and offset.
+    /// The specification's number, and for 12 the address, mapped size and offset.
     Refused(u64, Option<(u64, u64, i64)>),
     Panic(String),
 }
