@@ -13,9 +13,9 @@ use Rattle.definitions.specs.Order.{refused, toRoot, toSame, taken, full}
 use Rattle.definitions.specs.declared.Moved.{Moved}
 use Rattle.definitions.specs.declared.Place.{Place}
 use Rattle.definitions.proofs.Geometry.{span-pos}
+use Rattle.demands.proofs.Shared.Earlier.{earlier-total}
 use Rattle.demands.proofs.Pass1.Passing.{Passing}
 use Rattle.demands.proofs.Pass1.Ways.{way-one}
-use Rattle.demands.proofs.Pass1.Sequence.{earlier-total}
 use Rattle.demands.proofs.Pass1.First.{Met, Before, does, Wrong, First}
 
 module _ (K : Passing) where
@@ -77,4 +77,4 @@ module _ (K : Passing) where
       let et : e .t ≡ f .t = way-one K (e .way) (f .way) (ap suc el) pp in
       let ed : does K f ≡ does K e = cc in
       same-shape e f el ep (does K e) n n₁ q q₁ (shape e n q (F .wrong)) (rw ed at (shape f n₁ q₁ (G .wrong)))))
-      (earlier-total (e .l) (partOf e) (f .l) (partOf f))
+      (earlier-total (placeOf e) (placeOf f))
