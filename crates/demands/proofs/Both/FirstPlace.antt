@@ -76,17 +76,18 @@ module _ (j : Job) (proper : Proper j) (good : Good j) {s : State} (X : Fixed (p
     {n : ℕ} {q : Place} (T : Stuck (paging j) (s .moved) (s .mem) (usedTables (j .region)) n q) where
   open Stuck T using (x, m₁, u₁, in-before as B)
 
+  Z : Stopped j T
+  Z = stopped j proper good X T
+
   abbrev a : ℕ
   a = x .address
 
+  -- where the walk of the new address ends, with the leaves before in
   abbrev here : Spot
   here = at (paging j) m₁ a
 
   abbrev found : End
   found = walk (paging j) m₁ a
-
-  Z : Stopped j T
-  Z = stopped j proper good X T
 
   r : Addr (paging j) a
   r = Z .reach x (List·Memᴰ·head refl)
