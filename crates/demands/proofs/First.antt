@@ -16,6 +16,7 @@ use Rattle.definitions.specs.Conditions.{BadEntry, inTail, intoMoved, notWhole,
 use Rattle.definitions.specs.Conditions.{BadTables}
 use Rattle.definitions.specs.Order.{refused, toRoot, toSame, taken, full, FirstBad, FirstInWay, InOrder}
 use Rattle.definitions.proofs.Conditions.{bad-entry-number}
+use Rattle.definitions.proofs.Order.{in-way-bad}
 use Rattle.definitions.proofs.Checks.{Good, Starts, start-says, no-bad-input}
 use Rattle.demands.proofs.Pass1.Passing.{Passed, pass1}
 use Rattle.demands.proofs.Pass1.Tables.{Halted, pass1-halts}
@@ -25,7 +26,7 @@ use Rattle.demands.proofs.Pass1.OneFirst.{first-one}
 use Rattle.demands.proofs.Both.Sound.{passing, sound}
 use Rattle.demands.proofs.Both.Numbers.{entry-bad, places-number}
 use Rattle.demands.proofs.Both.Outcome.{Ran, Failed, first-is, ran, accepted-number}
-use Rattle.demands.proofs.Both.FirstPlace.{in-way-bad, first-place}
+use Rattle.demands.proofs.Both.FirstPlace.{first-place}
 use Rattle.demands.proofs.Both.OnePlace.{first-place-one}
 use Rattle.demands.proofs.Exact.{exact}
 

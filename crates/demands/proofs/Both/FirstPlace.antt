@@ -1,12 +1,11 @@
--- Both passes of a job: where pass 2 stops is the first place at which something is in the way (first-place), which is a condition of
--- refusal (in-way-bad). Builds on Refused and RoomOnly. Assumes nothing.
+-- Both passes of a job: where pass 2 stops is the first place at which something is in the way (first-place). Builds on Refused and
+-- RoomOnly. Assumes nothing.
 use Prim.Native.Nat.{ℕ, _+_, _-_, _<_, _≤_}
 use mathlib.Core.Path.{_≡_, refl, sym, _∙_, ap}
 use mathlib.Core.List.{List, _∷_, List·Memᴰ, List·Memᴰ·head, List·Memᴰ·cases-cons}
 use mathlib.Core.Logic.{_⊎_, inl, inr, ⊎-elim}
 use native.Mathlib.Omega.{arith}
 use lib.ListN.{length}
-use Rattle.definitions.specs.Geometry.{part}
 use Rattle.definitions.specs.Inputs.{Job, placeAt}
 use Rattle.definitions.specs.Ranges.{usedTables, allTables}
 use Rattle.definitions.specs.Pass1.{State}
@@ -19,8 +18,8 @@ use Rattle.definitions.specs.declared.Moved.{Moved}
 use Rattle.definitions.specs.declared.Place.{Place}
 use Rattle.definitions.proofs.Splits.{onEq, impossible}
 use Rattle.definitions.proofs.Checks.{Good}
+use Rattle.definitions.proofs.Order.{earlier-trans, tableAt, one-more, no-table-left}
 use Rattle.demands.proofs.Shared.Lists.{Counts, within-length}
-use Rattle.demands.proofs.Shared.Earlier.{earlier-trans}
 use Rattle.demands.proofs.Shared.Paging.{Addr, at, walk}
 use Rattle.demands.proofs.Pass1.Passing.{Fixed}
 use Rattle.demands.proofs.Pass2.Leaf.{Blocked, leafWay, pastWay, differs, full}
@@ -32,27 +31,6 @@ use Rattle.demands.proofs.Both.Left.{stop-same, tables-same, used-fits}
 use Rattle.demands.proofs.Both.Stop.{Stopped, stopped, needs-before}
 use Rattle.demands.proofs.Both.Refused.{refused-for}
 use Rattle.demands.proofs.Both.RoomOnly.{still-leaf, still-past, room-only}
-
--- the table on the way to address a that an entry of level l is to lead to
-abbrev tableAt : (l a : ℕ) → TablePlace
-tableAt l a = record { height = l; part = part l a }
-
--- a table that is not needed before, and those that are, are distinct
-one-more : (j : Job) (q : Place) (p : TablePlace) (ps : List TablePlace) → ¬ NeededBefore j q p → Distinct ps
-    → ((p′ : TablePlace) → List·Memᴰ p′ ps → NeededBefore j q p′) → Distinct (p ∷ ps)
-one-more j q p ps new d need = (λ e. new (need p e), d)
-
--- what is in the way is a condition of refusal
-pub in-way-bad : {j : Job} {n : ℕ} {q : Place} → InWay j n q → BadPlaces j n q
-in-way-bad (stands b n) = b
-in-way-bad {j} {q = q} (noTable {b} {l} {x} m lo le eq other new ps d need h) =
-    rw eq
-    (noRoom m lo le (tableAt l (x .address) ∷ ps) (one-more j q _ ps new d need)
-    (λ p e. ⊎-elim
-    (λ w. rw w (record { from = b; leaf = x; moves = m; above = lo; way = refl; missing = le }))
-    (λ w. need p w .need)
-    (List·Memᴰ·cases-cons e))
-    (omega arith))
 
 -- where the tables needed before q are free, none is wanting at an earlier place
 module _ (j : Job) (q : Place)
@@ -151,10 +129,10 @@ module _ (j : Job) (proper : Proper j) (good : Good j) {s : State} (X : Fixed (p
         (λ h. omega arith)
         (c .earlier)
 
-    want : allTables (planOf j .new) + l ≤ u₁ + here .level → InWay j 19 (placeAt a l)
+    want : u₁ + here .level ≡ allTables (planOf j .new) + l → InWay j 19 (placeAt a l)
     want h =
         let g = needs l (omega arith) (inl empty) in
-        noTable (Z .moves) lo (omega (arith, B .lower a r, stop-same j proper good X a r)) refl room-here new-here (g .list) (g .distinct) (g .only)
+        no-table-left (Z .moves) lo (omega (arith, B .lower a r, stop-same j proper good X a r)) room-here new-here (g .list) (g .distinct) (g .only)
         (omega (arith, g .count, tables-same j))
 
   enough : u₁ ≤ allTables (planOf j .new)
@@ -170,7 +148,7 @@ module _ (j : Job) (proper : Proper j) (good : Good j) {s : State} (X : Fixed (p
   first (differs {l} el d) b =
       let k : here .level ≤ l = ⊎-elim (λ c. omega arith) (λ c. omega (arith, c .0)) d in
       first-at l (omega arith) (inr k) (omega (arith, enough)) (stands b (omega arith))
-  first (full {l} lo le w h some) b = first-at l (omega arith) (inl w) (omega (arith, some enough)) (want l lo le w h)
+  first (full {l} lo le w h some) b = first-at l (omega arith) (inl w) (omega (arith, some enough)) (want l lo le w (omega (arith, some enough)))
 
   pub first-place : FirstInWay j n q
   first-place = first (T .blocked) (refused-for j proper good X T)

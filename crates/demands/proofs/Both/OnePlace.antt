@@ -1,5 +1,5 @@
 -- Both passes of a job: there is one first place at which something is in the way of pass 2, and one number for it (first-place-one).
--- Builds on FirstPlace. Assumes nothing.
+-- Builds on Left and RoomOnly. Assumes nothing.
 use Prim.Native.Nat.{ℕ, _<_}
 use mathlib.Core.Path.{_≡_, refl, sym, _∙_, ap, ap₂}
 use mathlib.Core.Logic.{_⊎_, inl, inr, ⊎-elim}
@@ -17,14 +17,13 @@ use Rattle.definitions.specs.declared.Moved.{Moved}
 use Rattle.definitions.specs.declared.Place.{Place}
 use Rattle.definitions.proofs.Splits.{onEq, impossible}
 use Rattle.definitions.proofs.Checks.{Good}
-use Rattle.demands.proofs.Shared.Earlier.{earlier-total}
+use Rattle.definitions.proofs.Order.{in-way-bad, in-way-lowest, not-after-one}
 use Rattle.demands.proofs.Shared.Walks.{same-stop, past-level}
 use Rattle.demands.proofs.Pass1.Passing.{Fixed}
 use Rattle.demands.proofs.Both.Sound.{passing}
 use Rattle.demands.proofs.Both.Bridge.{lands-in}
 use Rattle.demands.proofs.Both.Left.{one-leaf}
 use Rattle.demands.proofs.Both.RoomOnly.{past-stays}
-use Rattle.demands.proofs.Both.FirstPlace.{in-way-bad}
 
 module _ (j : Job) where
   -- two addresses of one part of level l, where the walk of one ends at that level: so does that of the other, and alike
@@ -115,11 +114,6 @@ module _ (j : Job) where
 
     pub first-place-one : (n n₁ : ℕ) (q q₁ : Place) → FirstInWay j n q → FirstInWay j n₁ q₁ → (n ≡ n₁) × (q ≡ q₁)
     first-place-one n n₁ q q₁ F G =
-        ⊎-elim
-        (λ b. absurd (G .none n q b (F .inWay)))
-        (⊎-elim
-        (λ b. absurd (F .none n₁ q₁ b (G .inWay)))
-        (λ w.
+        let w = not-after-one q q₁ (in-way-lowest F (G .inWay)) (in-way-lowest G (F .inWay)) in
         let e : q ≡ q₁ = place-of (in-way-bad (F .inWay)) ∙ ap₂ placeAt (w .1) (w .0) ∙ sym (place-of (in-way-bad (G .inWay))) in
-        (one-number q (F .none) n n₁ (F .inWay) (rw e (G .inWay)), e)))
-        (earlier-total q q₁)
+        (one-number q (F .none) n n₁ (F .inWay) (rw e (G .inWay)), e)

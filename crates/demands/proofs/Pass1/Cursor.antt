@@ -1,5 +1,5 @@
 -- Where pass 1 stands: every table that is seen is done below its cursor. What is done is earlier in walk order than what is
--- not (Sorted), and in the tables above the present one only what lies beyond it is not done (Ahead). Builds on Sequence. Assumes nothing.
+-- not (Sorted), and in the tables above the present one only what lies beyond it is not done (Ahead). Assumes nothing.
 use Prim.Native.Nat.{ℕ, suc, _+_, _*_, _<_, _≤_}
 use mathlib.Core.Path.{_≡_, sym, _∙_, ap}
 use mathlib.Core.Bool.{true, false}
@@ -10,9 +10,8 @@ use Rattle.definitions.specs.Geometry.{span}
 use Rattle.definitions.specs.Order.{Earlier}
 use Rattle.definitions.proofs.Splits.{onBool, onEq, impossible}
 use Rattle.definitions.proofs.Puts.{put-same, put-other}
-use Rattle.demands.proofs.Shared.Earlier.{earlier-trans}
+use Rattle.definitions.proofs.Order.{earlier-trans, entryAt, earlier-under, earlier-next, from-mono, table-end, entry-end}
 use Rattle.demands.proofs.Shared.Walks.{Map, stand}
-use Rattle.demands.proofs.Pass1.Sequence.{entryAt, earlier-under, earlier-next, from-mono, table-end, entry-end}
 
 -- entry i, of level l, of the table t, which is seen
 pub record At (R : Tables) (P : Map) (t l i : ℕ) : Type 0 where

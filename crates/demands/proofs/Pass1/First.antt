@@ -1,6 +1,6 @@
 -- Pass 1, walk order: where it stops is the first entry at which something is wrong (first-halt), and where it goes through nothing is wrong
--- (none-wrong). All that comes before the entry at which it stops is done, and at what is done nothing is wrong (fine). Builds on Reached, Steps
--- and Sequence. Assumes nothing.
+-- (none-wrong). All that comes before the entry at which it stops is done, and at what is done nothing is wrong (fine). Builds on Reached and
+-- Steps. Assumes nothing.
 use Prim.Native.Nat.{ℕ, suc, _+_, _*_, _<_, _≤_}
 use mathlib.Core.Path.{_≡_, refl, sym, _∙_, ap}
 use mathlib.Core.List.{_∷_, List·Memᴰ, List·Memᴰ·cases-cons}
@@ -16,13 +16,12 @@ use Rattle.definitions.specs.declared.Moved.{Moved}
 use Rattle.definitions.specs.declared.Place.{Place}
 use Rattle.definitions.proofs.Splits.{onEq}
 use Rattle.definitions.proofs.Leaves.{ascending-distinct}
+use Rattle.definitions.proofs.Order.{earlier-trans, earlier-other, entryAt, earlier-under, from-mono, table-end, entry-end, wrong-full}
 use Rattle.demands.proofs.Shared.Lists.{within-length}
-use Rattle.demands.proofs.Shared.Earlier.{earlier-trans, earlier-other}
 use Rattle.demands.proofs.Shared.Walks.{Map}
 use Rattle.demands.proofs.Shared.Paging.{Paging}
 use Rattle.demands.proofs.Pass1.Passing.{Passing, actAs, Sound, Seen, Way}
 use Rattle.demands.proofs.Pass1.Ways.{way-low}
-use Rattle.demands.proofs.Pass1.Sequence.{entryAt, earlier-under, from-mono, table-end, entry-end}
 use Rattle.demands.proofs.Pass1.Cursor.{At, same-level}
 use Rattle.demands.proofs.Pass1.Invariant.{Done, seen-at}
 use Rattle.demands.proofs.Pass1.Sources.{Src, led, All}
@@ -100,7 +99,7 @@ module _ {K : Passing} {s : State} {P : Map} {c : ℕ → ℕ} (F : All K s P c)
 
 -- ---- where pass 1 stops
 module _ {K : Passing} (S : Sound K) (n : ℕ) (q : Place) (h : Halt K n q) where
-  open Passing K using (paging as W, old, act, m₀)
+  open Passing K using (paging as W, old, act, room, m₀)
   open Paging W using (H, root)
   open Halt h using (s, P, c, all, t, l, i, cursor, ahead, fault)
 
@@ -178,7 +177,9 @@ module _ {K : Passing} (S : Sound K) (n : ℕ) (q : Place) (h : Halt K n q) wher
       (all .hist .parent t′ e)
   wrong-here (taking {x} {y} w my e z) = let b = moved-before y my in taken w (b .0) (b .1) (b .2) e z
   wrong-here (filling {x} w free hl z) =
-      full w (λ b y r wb. free y (listed-before b r y wb)) (s .moved) (ascending-distinct (s .moved) (all .hist .tidy)) moved-before hl z
+      rw z
+      (wrong-full old m₀ H root act room here x w (λ b y r wb. free y (listed-before b r y wb)) (s .moved) (ascending-distinct (s .moved) (all .hist .tidy))
+      moved-before (omega (arith, all .hist .small)))
 
   pub first-halt : First K n q
   first-halt =
