@@ -113,8 +113,8 @@ pub in-way-lowest : {j : Job} {n n′ : ℕ} {q q′ : Place} → FirstInWay j n
 in-way-lowest {n′ = n′} {q} {q′} f w = not-after q q′ (λ lo. f .none n′ q′ lo w)
 
 -- the table on the way to address a that an entry of level l is to lead to
-abbrev pub tableAt : (l a : ℕ) → TablePlace
-tableAt l a = record { height = l; part = part l a }
+abbrev pub tablePlace : (l a : ℕ) → TablePlace
+tablePlace l a = record { height = l; part = part l a }
 
 -- a table that is not needed before, and those that are, are distinct
 pub one-more : (j : Job) (q : Place) (p : TablePlace) (ps : List TablePlace) → ¬ NeededBefore j q p → Distinct ps
@@ -123,7 +123,7 @@ one-more j q p ps new d need = (λ e. new (need p e), d)
 
 -- as many tables as are free are enough for 19
 pub no-table-left : {j : Job} {b l : ℕ} {x : Moved} → Moves j b x → x .level < l → l ≤ stopBefore j (x .address) .level
-    → ((n : ℕ) → BadPlaces j n (placeAt (x .address) l) → n ≡ 19) → ¬ NeededBefore j (placeAt (x .address) l) (tableAt l (x .address))
+    → ((n : ℕ) → BadPlaces j n (placeAt (x .address) l) → n ≡ 19) → ¬ NeededBefore j (placeAt (x .address) l) (tablePlace l (x .address))
     → (ps : List TablePlace) → Distinct ps → ((p : TablePlace) → List·Memᴰ p ps → NeededBefore j (placeAt (x .address) l) p)
     → usedTables (j .region) + length ps ≡ allTables (j .region) → InWay j 19 (placeAt (x .address) l)
 no-table-left m lo le other new ps d need h = noTable m lo le refl other new ps d need (omega arith)
@@ -133,7 +133,7 @@ pub in-way-bad : {j : Job} {n : ℕ} {q : Place} → InWay j n q → BadPlaces j
 in-way-bad (stands b n) = b
 in-way-bad {j} {q = q} (noTable {b} {l} {x} m lo le eq other new ps d need h) =
     rw eq
-    (noRoom m lo le (tableAt l (x .address) ∷ ps) (one-more j q _ ps new d need)
+    (noRoom m lo le (tablePlace l (x .address) ∷ ps) (one-more j q _ ps new d need)
     (λ p e. ⊎-elim
     (λ w. rw w (record { from = b; leaf = x; moves = m; above = lo; way = refl; missing = le }))
     (λ w. need p w .need)

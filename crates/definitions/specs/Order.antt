@@ -97,7 +97,7 @@ pub record FirstInWay (j : Job) (n : ℕ) (q : Place) : Type 0 where
   pub fits : (ps : List TablePlace) → Distinct ps → ((p : TablePlace) → List·Memᴰ p ps → NeededBefore j q p)
       → usedTables (j .region) + length ps ≤ allTables (j .region)
 
--- ---- "The first that applies is given", "pass 1 in walk order": Proper j → InOrder j
+-- ---- "The first that applies is given", "pass 1 in walk order, then pass 2": Proper j → InOrder j
 pub record InOrder (j : Job) : Type 0 where
   -- a refused build: an input's condition; or none of these, and the first in walk order; or none of both, and the first in
   -- the way of pass 2

@@ -18,7 +18,7 @@ use Rattle.definitions.specs.declared.Moved.{Moved}
 use Rattle.definitions.specs.declared.Place.{Place}
 use Rattle.definitions.proofs.Splits.{onEq, impossible}
 use Rattle.definitions.proofs.Checks.{Good}
-use Rattle.definitions.proofs.Order.{earlier-trans, tableAt, one-more, no-table-left}
+use Rattle.definitions.proofs.Order.{earlier-trans, tablePlace, one-more, no-table-left}
 use Rattle.demands.proofs.Shared.Lists.{Counts, within-length}
 use Rattle.demands.proofs.Shared.Paging.{Addr, at, walk}
 use Rattle.demands.proofs.Pass1.Passing.{Fixed}
@@ -28,7 +28,7 @@ use Rattle.demands.proofs.Pass2.Leaves.{Stuck}
 use Rattle.demands.proofs.Both.Sound.{paging, passing}
 use Rattle.demands.proofs.Both.Bridge.{lands-in}
 use Rattle.demands.proofs.Both.Left.{stop-same, tables-same, used-fits}
-use Rattle.demands.proofs.Both.Stop.{Stopped, stopped, needs-before}
+use Rattle.demands.proofs.Both.Stop.{AtStop, at-stop, needs-before}
 use Rattle.demands.proofs.Both.Refused.{refused-for}
 use Rattle.demands.proofs.Both.RoomOnly.{still-leaf, still-past, room-only}
 
@@ -40,7 +40,7 @@ module _ (j : Job) (q : Place)
   none-before : (n′ : ℕ) (q′ : Place) → Earlier q′ q → ¬ InWay j n′ q′
   none-before n′ q′ lo (stands b n) = n (only-room n′ q′ lo b)
   none-before n′ q′ lo (noTable {b} {l} {x} m low le eq other new ps d need h) =
-      let c = fits (tableAt l (x .address) ∷ ps) (one-more j q′ _ ps new d need)
+      let c = fits (tablePlace l (x .address) ∷ ps) (one-more j q′ _ ps new d need)
       (λ p e. ⊎-elim
       (λ w. rw w (record {
         need = record { from = b; leaf = x; moves = m; above = low; way = refl; missing = le };
@@ -54,8 +54,8 @@ module _ (j : Job) (proper : Proper j) (good : Good j) {s : State} (X : Fixed (p
     {n : ℕ} {q : Place} (T : Stuck (paging j) (s .moved) (s .mem) (usedTables (j .region)) n q) where
   open Stuck T using (x, m₁, u₁, in-before as B)
 
-  Z : Stopped j T
-  Z = stopped j proper good X T
+  Z : AtStop j T
+  Z = at-stop j proper good X T
 
   abbrev a : ℕ
   a = x .address
@@ -71,25 +71,25 @@ module _ (j : Job) (proper : Proper j) (good : Good j) {s : State} (X : Fixed (p
   r = Z .reach x (List·Memᴰ·head refl)
 
   -- what a condition at the address of x says: it is want of tables, or at the level of x, or at the level at which the walk ends in something
-  abbrev Says : ℕ → Place → Type 0
-  Says n′ q′ = (n′ ≡ 19) ⊎ (q′ .level ≡ x .level) ⊎ ((¬ (found ≡ nothing)) × (here .level ≡ q′ .level))
+  abbrev AtAddress : ℕ → Place → Type 0
+  AtAddress n′ q′ = (n′ ≡ 19) ⊎ (q′ .level ≡ x .level) ⊎ ((¬ (found ≡ nothing)) × (here .level ≡ q′ .level))
 
   in-leaf : (l e : ℕ) → found ≡ inLeaf l e → (¬ (found ≡ nothing)) × (here .level ≡ l)
   in-leaf l e v = (λ z. impossible (cc), Z .at-leaf l e v)
 
-  says : (n′ : ℕ) (q′ : Place) → q′ .address ≡ a → BadPlaces j n′ q′ → Says n′ q′
-  says n′ q′ ea (onLeaf {l = l} {e} m lo w st) = inr (inr (in-leaf l e (still-leaf j proper good X B a l e r (rw ea at st) (rw ea at w))))
-  says n′ q′ ea (inSpan {b} {c} {x = y} {y = z} m land lo) =
+  at-address : (n′ : ℕ) (q′ : Place) → q′ .address ≡ a → BadPlaces j n′ q′ → AtAddress n′ q′
+  at-address n′ q′ ea (onLeaf {l = l} {e} m lo w st) = inr (inr (in-leaf l e (still-leaf j proper good X B a l e r (rw ea at st) (rw ea at w))))
+  at-address n′ q′ ea (inSpan {b} {c} {x = y} {y = z} m land lo) =
       onEq (z .address) a
       (λ e. let d : y ≡ z = Z .one b y m ea ∙ sym (Z .one c z (land .leaf) e) in absurd (omega (arith, ap (λ (w : Moved). w .level) d)))
       (λ n. let mz = Z .lower c z (land .leaf) (omega (arith, land .low)) in
       inr (inr (in-leaf (z .level) (z .entry) (B .inside z mz a r (rw ea at (lands-in j (y .address) c z land))))))
-  says n′ q′ ea (onPast {l = l} {e} m lo w) =
+  at-address n′ q′ ea (onPast {l = l} {e} m lo w) =
       let v = still-past j proper good X B a l e r (rw ea at w) in
       inr (inr (λ z. impossible (cc), Z .at-past l e v))
-  says n′ q′ ea (onTable {b} {x = y} m lo) = inr (inl (ap (λ (w : Moved). w .level) (Z .one b y m ea)))
-  says n′ q′ ea (onOther {b} {x = y} m el st some other) = inr (inl (ap (λ (w : Moved). w .level) (Z .one b y m ea)))
-  says n′ q′ ea (noRoom m lo le ps d need h) = inl refl
+  at-address n′ q′ ea (onTable {b} {x = y} m lo) = inr (inl (ap (λ (w : Moved). w .level) (Z .one b y m ea)))
+  at-address n′ q′ ea (onOther {b} {x = y} m el st some other) = inr (inl (ap (λ (w : Moved). w .level) (Z .one b y m ea)))
+  at-address n′ q′ ea (noRoom m lo le ps d need h) = inl refl
 
   -- at a level l of the way, not below x, down to which the walk finds nothing or ends
   module _ (l : ℕ) (low : x .level ≤ l) (up : (found ≡ nothing) ⊎ (here .level ≤ l)) where
@@ -99,7 +99,7 @@ module _ (j : Job) (proper : Proper j) (good : Good j) {s : State} (X : Fixed (p
         (λ h. room-only j proper good X B n′ q′ (λ c z m le. Z .lower c z m (omega arith)) b .0)
         (λ h. ⊎-elim (λ e. e)
         (⊎-elim (λ e. absurd (omega arith)) (λ e. absurd (⊎-elim (e .0) (λ d. omega (arith, e .1)) up)))
-        (says n′ q′ (h .0) b))
+        (at-address n′ q′ (h .0) b))
         lo
 
     needs : Counts (NeededBefore j (placeAt a l)) (usedTables (j .region)) (u₁ + (here .level - l))
@@ -117,9 +117,9 @@ module _ (j : Job) (proper : Proper j) (good : Good j) {s : State} (X : Fixed (p
   -- no table is left for the entry of level l
   module _ (l : ℕ) (lo : x .level < l) (le : l ≤ here .level) (empty : found ≡ nothing) where
     room-here : (n′ : ℕ) → BadPlaces j n′ (placeAt a l) → n′ ≡ 19
-    room-here n′ b = ⊎-elim (λ e. e) (⊎-elim (λ e. absurd (omega arith)) (λ e. absurd (e .0 empty))) (says n′ (placeAt a l) refl b)
+    room-here n′ b = ⊎-elim (λ e. e) (⊎-elim (λ e. absurd (omega arith)) (λ e. absurd (e .0 empty))) (at-address n′ (placeAt a l) refl b)
 
-    new-here : ¬ NeededBefore j (placeAt a l) (tableAt l a)
+    new-here : ¬ NeededBefore j (placeAt a l) (tablePlace l a)
     new-here c =
         let z = c .need .leaf in
         ⊎-elim

@@ -43,11 +43,11 @@ module _ (j : Job) where
   place-of (noRoom m lo le ps d need h) = refl
 
   -- a leaf moves to the address of q, and its level is that of q, or lower
-  abbrev At : Place → Type 0
-  At q = (c : ℕ) × (y : Moved) × Moves j c y × (y .address ≡ q .address) × (y .level ≡ q .level)
+  abbrev AtLevel : Place → Type 0
+  AtLevel q = (c : ℕ) × (y : Moved) × Moves j c y × (y .address ≡ q .address) × (y .level ≡ q .level)
 
-  abbrev Under : Place → Type 0
-  Under q = (c : ℕ) × (y : Moved) × Moves j c y × (y .address ≡ q .address) × (y .level < q .level)
+  abbrev UnderLevel : Place → Type 0
+  UnderLevel q = (c : ℕ) × (y : Moved) × Moves j c y × (y .address ≡ q .address) × (y .level < q .level)
 
   -- at the level of q a leaf is in the way, old or moved; or a pointer outside the region is
   abbrev ByLeaf : Place → Type 0
@@ -58,26 +58,26 @@ module _ (j : Job) where
   ByPast q = (e : ℕ) × (before j (q .address) ≡ past (q .level) e)
 
   -- what stands in the way, by its number
-  abbrev Shape : ℕ → Place → Type 0
-  Shape n q = ((n ≡ 18) × At q) ⊎ (Under q × (((n ≡ 16) × ByLeaf q) ⊎ ((n ≡ 17) × ByPast q)))
+  abbrev Standing : ℕ → Place → Type 0
+  Standing n q = ((n ≡ 18) × AtLevel q) ⊎ (UnderLevel q × (((n ≡ 16) × ByLeaf q) ⊎ ((n ≡ 17) × ByPast q)))
 
-  shape : {n : ℕ} {q : Place} → BadPlaces j n q → ¬ (n ≡ 19) → Shape n q
-  shape (onLeaf {b} {e = e} {x} m lo w st) n = inr ((b, x, m, refl, lo), inl (refl, inl (e, w)))
-  shape (inSpan {b} {c} {x} {y} m land lo) n = inr ((b, x, m, refl, lo), inl (refl, inr (c, y, land, refl)))
-  shape (onPast {b} {e = e} {x} m lo w) n = inr ((b, x, m, refl, lo), inr (refl, (e, w)))
-  shape (onTable {b} {x} m lo) n = inl (refl, (b, x, m, refl, refl))
-  shape (onOther {b} {x} m el st some other) n = inl (refl, (b, x, m, refl, refl))
-  shape (noRoom m lo le ps d need h) n = absurd (n refl)
+  standing : {n : ℕ} {q : Place} → BadPlaces j n q → ¬ (n ≡ 19) → Standing n q
+  standing (onLeaf {b} {e = e} {x} m lo w st) n = inr ((b, x, m, refl, lo), inl (refl, inl (e, w)))
+  standing (inSpan {b} {c} {x} {y} m land lo) n = inr ((b, x, m, refl, lo), inl (refl, inr (c, y, land, refl)))
+  standing (onPast {b} {e = e} {x} m lo w) n = inr ((b, x, m, refl, lo), inr (refl, (e, w)))
+  standing (onTable {b} {x} m lo) n = inl (refl, (b, x, m, refl, refl))
+  standing (onOther {b} {x} m el st some other) n = inl (refl, (b, x, m, refl, refl))
+  standing (noRoom m lo le ps d need h) n = absurd (n refl)
 
   module _ (proper : Proper j) (good : Good j) {s : State} (X : Fixed (passing j) s) where
-    not-both : (q : Place) → At q → ¬ Under q
+    not-both : (q : Place) → AtLevel q → ¬ UnderLevel q
     not-both q a u =
         let e = one-leaf j proper good X (a .0) (u .0) (a .1) (u .1) (a .2) (u .2) (a .3 ∙ sym (u .3)) in
         omega (arith, a .4, u .4, ap (λ (w : Moved). w .level) e)
 
     module _ (q : Place) (none : (n′ : ℕ) (q′ : Place) → Earlier q′ q → ¬ InWay j n′ q′) where
       -- a leaf whose new span has such a pointer at its place is refused itself
-      leaf-or-past : Under q → ByLeaf q → ¬ ByPast q
+      leaf-or-past : UnderLevel q → ByLeaf q → ¬ ByPast q
       leaf-or-past u k p =
           ⊎-elim
           (λ d. let v = d .1 in let w = p .1 in impossible (cc))
@@ -96,8 +96,8 @@ module _ (j : Job) where
           none 18 (placeAt (z .address) (z .level)) (inl (omega (arith, land .low))) (stands b (omega arith))))
           k
 
-      same-shape : (n n₁ : ℕ) → Shape n q → Shape n₁ q → n ≡ n₁
-      same-shape n n₁ =
+      same-standing : (n n₁ : ℕ) → Standing n q → Standing n₁ q → n ≡ n₁
+      same-standing n n₁ =
           ⊎-elim
           (λ a. ⊎-elim (λ b. a .0 ∙ sym (b .0)) (λ b. absurd (not-both q (a .1) (b .0))))
           (λ a. ⊎-elim
@@ -110,7 +110,7 @@ module _ (j : Job) where
       one-number : (n n₁ : ℕ) → InWay j n q → InWay j n₁ q → n ≡ n₁
       one-number n n₁ (noTable m lo le eq other new ps d need h) w = sym (other n₁ (in-way-bad w))
       one-number n n₁ (stands b nb) (noTable m lo le eq other new ps d need h) = other n b
-      one-number n n₁ (stands b nb) (stands c nc) = same-shape n n₁ (shape b nb) (shape c nc)
+      one-number n n₁ (stands b nb) (stands c nc) = same-standing n n₁ (standing b nb) (standing c nc)
 
     pub first-place-one : (n n₁ : ℕ) (q q₁ : Place) → FirstInWay j n q → FirstInWay j n₁ q₁ → (n ≡ n₁) × (q ≡ q₁)
     first-place-one n n₁ q q₁ F G =

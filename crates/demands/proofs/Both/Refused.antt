@@ -27,7 +27,7 @@ use Rattle.demands.proofs.Pass2.Leaves.{Stuck}
 use Rattle.demands.proofs.Both.Sound.{paging, passing, sound}
 use Rattle.demands.proofs.Both.Bridge.{old, in-lands}
 use Rattle.demands.proofs.Both.Left.{stays, as-before, stop-same, tables-same}
-use Rattle.demands.proofs.Both.Stop.{Stopped, stopped, needs-before}
+use Rattle.demands.proofs.Both.Stop.{AtStop, at-stop, needs-before}
 
 -- a leaf of the list whose new span holds a, if there is one
 any : (xs : List Moved) (a : ℕ) → ((y : Moved) × List·Memᴰ y xs × In y a) ⊎ ((y : Moved) → List·Memᴰ y xs → ¬ In y a)
@@ -63,8 +63,8 @@ module _ (j : Job) (proper : Proper j) (good : Good j) {s : State} (X : Fixed (p
   S : Sound (passing j)
   S = sound j proper good
 
-  Z : Stopped j T
-  Z = stopped j proper good X T
+  Z : AtStop j T
+  Z = at-stop j proper good X T
 
   abbrev mo : Moves j (Z .from) x
   mo = Z .moves

@@ -1,4 +1,4 @@
--- Both passes of a job: where pass 2 stops at a leaf, the leaves of lower new addresses are those that are in (Stopped, stopped), and the
+-- Both passes of a job: where pass 2 stops at a leaf, the leaves of lower new addresses are those that are in (AtStop, at-stop), and the
 -- tables needed before a place on its way are counted (needs-before). Builds on Left and Pass2.Leaves. Assumes nothing.
 use Prim.Native.Nat.{ℕ, _+_, _-_, _<_, _≤_}
 use mathlib.Core.Path.{_≡_, refl, sym, _∙_}
@@ -22,7 +22,7 @@ use Rattle.demands.proofs.Shared.Lists.{Counts, counts-same}
 use Rattle.demands.proofs.Shared.Walks.{leaf-level, past-level}
 use Rattle.demands.proofs.Shared.Paging.{Paging, kindIn, Addr, at, walk}
 use Rattle.demands.proofs.Pass1.Passing.{Sound, Goes, Fixed}
-use Rattle.demands.proofs.Pass2.Growth.{shared, Need, Ahead, grow-more}
+use Rattle.demands.proofs.Pass2.Growth.{shared, Need, Lacking, grow-more}
 use Rattle.demands.proofs.Pass2.Leaves.{Stuck}
 use Rattle.demands.proofs.Both.Passes.{fits, listed}
 use Rattle.demands.proofs.Both.Sound.{paging, passing, sound}
@@ -30,7 +30,7 @@ use Rattle.demands.proofs.Both.Bridge.{goes, moved}
 use Rattle.demands.proofs.Both.Left.{one-leaf, stop-same}
 
 -- pass 2 stopped at the leaf x, with the leaves before in
-pub record Stopped (j : Job) {xs : List Moved} {m : Mem} {n : ℕ} {q : Place} (T : Stuck (paging j) xs m (usedTables (j .region)) n q) : Type 0 where
+pub record AtStop (j : Job) {xs : List Moved} {m : Mem} {n : ℕ} {q : Place} (T : Stuck (paging j) xs m (usedTables (j .region)) n q) : Type 0 where
   pub from : ℕ
   pub moves : Moves j from (T .x)
   pub going : (y : Moved) → List·Memᴰ y (T .x ∷ T .before) → Goes (passing j) y
@@ -72,8 +72,8 @@ module _ (j : Job) (proper : Proper j) (good : Good j) {s : State} (X : Fixed (p
   reaches : (y : Moved) → List·Memᴰ y (x ∷ T .before) → Addr W (y .address)
   reaches y e = fits S X y (goes-in y e) .address
 
-  pub stopped : Stopped j T
-  stopped =
+  pub at-stop : AtStop j T
+  at-stop =
       let o = goes-in x (List·Memᴰ·head refl) in
       record {
         from = o .0;
@@ -91,8 +91,8 @@ module _ (j : Job) (proper : Proper j) (good : Good j) {s : State} (X : Fixed (p
         at-past = past-level (kindIn W) m₁ (at W m₁ a);
       }
 
-  Z : Stopped j T
-  Z = stopped
+  Z : AtStop j T
+  Z = at-stop
 
   r : Addr W a
   r = Z .reach x (List·Memᴰ·head refl)
@@ -100,7 +100,7 @@ module _ (j : Job) (proper : Proper j) (good : Good j) {s : State} (X : Fixed (p
   -- the words of demand 3 and those of growth
   module _ (l : ℕ) (high : x .level ≤ l) (p : TablePlace) where
     abbrev Growing : Type 0
-    Growing = Need W (T .before) (s .mem) p ⊎ Ahead W m₁ l a p
+    Growing = Need W (T .before) (s .mem) p ⊎ Lacking W m₁ l a p
 
     on-way : p .height ≤ stopBefore j a .level → l < p .height → part (p .height) a ≡ p .part → Growing
     on-way missing above way =
