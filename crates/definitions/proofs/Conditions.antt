@@ -23,8 +23,8 @@ module _ (p : Plan) (l a e : ℕ) where
   pub refuse-iff : (n : ℕ) (q : Place) → (act p l a e ≡ refuse n q) ↔ BadEntry p l a e n q
   refuse-iff n q = ((λ w. rw w at (act-means p l a e)), bad-refused n q)
 
-pub bad-entry-number : {p : Plan} {l a e n : ℕ} {q : Place} → BadEntry p l a e n q → 0 < n
-bad-entry-number (inTail ek h) = omega arith
-bad-entry-number (intoMoved ek w) = omega arith
-bad-entry-number (notWhole ek ed ne) = omega arith
-bad-entry-number (tooFar ek ed eo h) = omega arith
+pub bad-entry-number : {p : Plan} {l a e n : ℕ} {q : Place} → BadEntry p l a e n q → (0 < n) × (n < 16)
+bad-entry-number (inTail ek h) = (omega arith, omega arith)
+bad-entry-number (intoMoved ek w) = (omega arith, omega arith)
+bad-entry-number (notWhole ek ed ne) = (omega arith, omega arith)
+bad-entry-number (tooFar ek ed eo h) = (omega arith, omega arith)

@@ -1,4 +1,4 @@
--- The starred examples of document 01, as a list, and the test that one holds.
+-- The starred examples of document 01 and a few beside them, as a list, and the test that one holds.
 -- Assumes nothing.
 use mathlib.Core.Bool.{Bool, true, false, _&&_}
 use mathlib.Core.List.{List, [], _∷_}
@@ -55,19 +55,24 @@ allHold (x ∷ xs) = holds x && allHold xs
 unfoldable pub base : Mem
 base = put (put (put blank (slot 0 0) 0x101023) (slot 1 0) 0x102023) (slot 2 1) 0x2000E3
 
--- the base, with the last address and the offset of the one range, a size, and an image
-unfoldable pub jobTo : ℕ → ℕ → ℕ → Mem → Job
-jobTo last size o m = record {
+-- the base, with the words of the ranges, a size, and an image
+unfoldable pub jobWith : List ℕ → ℕ → Mem → Job
+jobWith words size m = record {
   region = record { gpa = 0x100000; size = size; used = 0x3000 };
   cr3 = 0x100000;
   cr4 = 0;
   tableOffset = 0;
-  words = 0x200000 ∷ last ∷ o ∷ [];
+  words = words;
   imageLength = 0x3000;
   image = m;
   outputLength = size;
   scratchLength = 6;
 }
+
+-- with the last address and the offset of one range
+unfoldable pub jobTo : ℕ → ℕ → ℕ → Mem → Job
+unfolding jobWith
+jobTo last size o m = jobWith (0x200000 ∷ last ∷ o ∷ []) size m
 
 unfoldable pub job : ℕ → ℕ → Mem → Job
 unfolding jobTo
@@ -84,9 +89,19 @@ yields used moved merged m = record {
 unfoldable pub refuses : ℕ → ℕ → ℕ → ℕ → Built
 refuses n a l o = refused n (record { address = a; level = l; offset = o })
 
--- the starred ones; and last one that is not: a leaf moves to the old slot of another that moves on, so nothing may be put
--- in while pass 1 still runs
+-- two leaves, of which the first is to move beyond the second; at both new places stands another
+unfoldable pub crossing : Job
+unfolding jobWith
+crossing =
+    jobWith (0x200000 ∷ 0x3FFFFF ∷ 0x600000 ∷ 0x400000 ∷ 0x5FFFFF ∷ 0x200000 ∷ []) 0x8000
+    (put (put (put base (slot 2 2) 0x4000E3) (slot 2 3) 0x6000E1) (slot 2 4) 0x8000E1)
+
+-- the starred ones. Then four of the order of refusals: in pass 1 the leaf at 0x200000 (12) comes before the root's last entry
+-- (10); in pass 2 the lower new address comes first, though pass 1 met it last; and of two tables that are wanting on a way the
+-- higher one comes first, and the lower one where one is free. And last: a leaf moves to the old slot of another that moves
+-- on, so nothing may be put in while pass 1 still runs
 unfoldable pub examples : List Example
+unfolding crossing
 examples =
     builds (job 0x8000 0x1FF000 base) (yields 0x3000 0 0 base)
     ∷ builds (job 0x8000 0x200000 base) (yields 0x3000 1 0 (put (put base (slot 2 1) 0) (slot 2 2) 0x4000E3))
@@ -102,6 +117,10 @@ examples =
     ∷ builds (job 0x8000 0x200000 (put base (slot 0 511) 0x100023)) (refuses 10 (511 * 2 ^ 39) 3 0)
     ∷ builds (job 0x8000 0x200000 (put base (slot 2 0) 0x103023)) (refuses 9 0 1 0)
     ∷ hasIndices 0x603000 (3 ∷ 3 ∷ 0 ∷ 0 ∷ [])
+    ∷ builds (job 0x8000 0x201000 (put base (slot 0 511) 0x100023)) (refuses 12 0x200000 1 0x201000)
+    ∷ builds crossing (refuses 18 0x600000 1 0)
+    ∷ builds (job 0x3000 0x8000000000 base) (refuses 19 0x8000200000 3 0)
+    ∷ builds (job 0x4000 0x8000000000 base) (refuses 19 0x8000200000 2 0)
     ∷ builds (jobTo 0x5FFFFF 0x8000 0x200000 (put base (slot 2 2) 0x4000E3))
     (yields 0x3000 2 0 (put (put (put base (slot 2 1) 0) (slot 2 2) 0x4000E3) (slot 2 3) 0x6000E3))
     ∷ []

@@ -1,24 +1,25 @@
--- The order in which pass 1 meets the entries, and the first of them at which something is wrong (demand 3): stated without
--- the passes.
+-- The order in which the passes meet the entries, and the first of them at which something is wrong in pass 1, or in the
+-- way in pass 2 (demand 3): stated without the passes.
 -- Assumes nothing.
 use mathlib.Core.Path.{_≡_}
 use mathlib.Core.List.{List, List·Memᴰ}
 use mathlib.Core.Logic.{_⊎_}
-use Prim.Native.Nat.{ℕ, _*_, _≤_, _<_}
+use Prim.Native.Nat.{ℕ, _+_, _≤_, _<_}
 use lib.ListN.{length}
 use Rattle.definitions.specs.Words.{Mem}
-use Rattle.definitions.specs.Geometry.{span}
-use Rattle.definitions.specs.Inputs.{Place, Job}
-use Rattle.definitions.specs.Ranges.{Kind, kind}
+use Rattle.definitions.specs.Geometry.{part}
+use Rattle.definitions.specs.Inputs.{Place, placeAt, Job}
+use Rattle.definitions.specs.Ranges.{Kind, kind, usedTables, allTables}
 use Rattle.definitions.specs.Pass1.{Moved, Act, move, follow, refuse}
 use Rattle.definitions.specs.Build.{height, planOf, root, build}
-use Rattle.definitions.specs.Demand.{Met, wordOf, partOf, startOf, placeOf, actAt, Distinct}
+use Rattle.definitions.specs.Demand.{Met, wordOf, partOf, startOf, placeOf, actAt, stopBefore, Moves, TablePlace, Needed, Distinct}
 use Rattle.definitions.specs.Conditions.{BadInput, BadTables, BadPlaces, None}
 
--- ---- walk order: "entries in order, each subtable fully at its entry". An entry of level l that maps part p of the addresses
--- is earlier than one of level l′ that maps part p′: its first address is lower, or the same and its level is higher
-abbrev pub Earlier : (l p l′ p′ : ℕ) → Type 0
-Earlier l p l′ p′ = (p * span l < p′ * span l′) ⊎ ((p * span l ≡ p′ * span l′) × (l′ < l))
+-- ---- the order of places, for both passes: the address is lower, or the same and the level is higher. In pass 1, over the
+-- places of entries, it is walk order, "entries in order, each subtable fully at its entry"; in pass 2, over new addresses
+-- and the levels on the way to them, it is "by ascending new address, from the moved root down"
+abbrev pub Earlier : Place → Place → Type 0
+Earlier p q = (p .address < q .address) ⊎ ((p .address ≡ q .address) × (q .level < p .level))
 
 -- ---- in an image: read says what an entry is, m has the words, t₀ is the root table, of height h₀
 module _ (read : ℕ → ℕ → Kind) (m : Mem) (h₀ t₀ : ℕ) where
@@ -27,7 +28,7 @@ module _ (read : ℕ → ℕ → Kind) (m : Mem) (h₀ t₀ : ℕ) where
   Entry = Met read m h₀ t₀
 
   abbrev pub Before : Entry → Entry → Type 0
-  Before b e = Earlier (b .l) (partOf b) (e .l) (partOf e)
+  Before b e = Earlier (placeOf b) (placeOf e)
 
   -- does: what is done at an entry of a level that maps a part
   module _ (does : ℕ → ℕ → ℕ → Act) where
@@ -69,15 +70,48 @@ module _ (read : ℕ → ℕ → Kind) (m : Mem) (h₀ t₀ : ℕ) where
 abbrev pub FirstBad : Job → ℕ → Place → Type 0
 FirstBad j = First (kind (j .region)) (j .image) (height j) (root j) (actAt j) (planOf j .room)
 
--- ---- "The first that applies is given", "pass 1 in walk order": Proper j → InOrder j
+-- ---- pass 2
+
+-- a moved leaf needs table p, and would have it linked before place q: a table of height h is linked at an entry of level h,
+-- on the way to the leaf's new address
+pub record NeededBefore (j : Job) (q : Place) (p : TablePlace) : Type 0 where
+  pub need : Needed j p
+  pub earlier : Earlier (placeAt (need .leaf .address) (p .height)) q
+
+-- what is in the way at place q, by what is earlier alone
+pub data InWay (j : Job) : ℕ → Place → Type 0 where
+  -- something stands there: 16, 17 or 18, which hang on no room
+  stands : {n : ℕ} {q : Place} → BadPlaces j n q → ¬ (n ≡ 19) → InWay j n q
+  -- nothing stands there, x needs a table there that nothing earlier needs, and earlier needs are as many as tables are free
+  noTable : {b l : ℕ} {x : Moved} {q : Place} → Moves j b x → x .level < l → l ≤ stopBefore j (x .address) .level → q ≡ placeAt (x .address) l
+      → ((n : ℕ) → BadPlaces j n q → n ≡ 19) → ¬ NeededBefore j q (record { height = l; part = part l (x .address) })
+      → (ps : List TablePlace) → Distinct ps → ((p : TablePlace) → List·Memᴰ p ps → NeededBefore j q p)
+      → allTables (j .region) ≤ usedTables (j .region) + length ps → InWay j 19 q
+
+-- number n at place q is the first in the way
+pub record FirstInWay (j : Job) (n : ℕ) (q : Place) : Type 0 where
+  pub inWay : InWay j n q
+  -- nothing is in the way at an earlier place
+  pub none : (n′ : ℕ) (q′ : Place) → Earlier q′ q → ¬ InWay j n′ q′
+  -- the tables that are needed before it are free: at number 19 they are all that are
+  pub fits : (ps : List TablePlace) → Distinct ps → ((p : TablePlace) → List·Memᴰ p ps → NeededBefore j q p)
+      → usedTables (j .region) + length ps ≤ allTables (j .region)
+
+-- ---- "The first that applies is given", "pass 1 in walk order, then pass 2": Proper j → InOrder j
 pub record InOrder (j : Job) : Type 0 where
-  -- a refused build: an input's condition; or none of these, and the first in walk order; or none of both, and one of pass 2
+  -- a refused build: an input's condition; or none of these, and the first in walk order; or none of both, and the first in
+  -- the way of pass 2
   pub given : ¬ (build j .report .number ≡ 0) → let n = build j .report .number in let q = build j .report .place in
-      BadInput j n q ⊎ (None (BadInput j) × FirstBad j n q) ⊎ (None (BadInput j) × None (BadTables j) × BadPlaces j n q)
+      BadInput j n q ⊎ (None (BadInput j) × FirstBad j n q) ⊎ (None (BadInput j) × None (BadTables j) × FirstInWay j n q)
   -- the same by the numbers: those of pass 1 are 9, but of the root, to 15
   pub numbers : 9 ≤ build j .report .number → build j .report .number < 16 → (build j .report .number ≡ 9 → build j .report .place .level < height j)
       → FirstBad j (build j .report .number) (build j .report .place)
+  -- and those of pass 2 are from 16 on
+  pub placeNumbers : 16 ≤ build j .report .number → FirstInWay j (build j .report .number) (build j .report .place)
   -- the place is that of the entry: the first address that it maps, and its level
   pub place : (n : ℕ) (q : Place) (f : FirstBad j n q) → (q .address ≡ startOf (f .entry)) × (q .level ≡ f .entry .l)
   -- and where no input's condition holds, the first in walk order is what is reported
   pub only : (n : ℕ) (q : Place) → None (BadInput j) → FirstBad j n q → (build j .report .number ≡ n) × (build j .report .place ≡ q)
+  -- and where no condition of pass 1 holds either, the first in the way is
+  pub onlyPlace : (n : ℕ) (q : Place) → None (BadInput j) → None (BadTables j) → FirstInWay j n q
+      → (build j .report .number ≡ n) × (build j .report .place ≡ q)

@@ -8,8 +8,6 @@ pub mod Passing
 -- Ways: the ways from the root to the tables, in the tables as they were
 pub mod Ways
 -- What holds while it goes.
--- Sequence: walk order is an order
-pub mod Sequence
 -- Cursor: what is done is earlier in walk order than what is not
 pub mod Cursor
 -- Invariant: each table is done below its cursor and as it was from there on

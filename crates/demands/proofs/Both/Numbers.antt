@@ -20,7 +20,7 @@ entry-bad j t l p i n q = refuse-iff (planOf j) l ((p * 512 + i) * span l) (j .i
 pub tables-number : (j : Job) (n : ℕ) (q : Place) → BadTables j n q → 0 < n
 tables-number j n q (bad c) =
     let e = c .entry in
-    bad-entry-number (entry-bad j (e .t) (e .l) (e .p) (e .i) n q (c .acted))
+    bad-entry-number (entry-bad j (e .t) (e .l) (e .p) (e .i) n q (c .acted)) .0
 tables-number j n q (again e w) = omega arith
 tables-number j n q (twice a b e w) = omega arith
 tables-number j n q (taken a b e d w) = omega arith

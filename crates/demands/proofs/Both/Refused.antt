@@ -1,8 +1,8 @@
 -- Both passes of a job: where pass 2 refuses a leaf, a condition of refusal holds, with the number and the place (refused-for).
--- Builds on Left and Pass2.Leaves. Assumes nothing.
+-- Builds on Stop. Assumes nothing.
 use Prim.Native.Nat.{ℕ, _+_, _<_, _≤_}
 use mathlib.Core.Path.{_≡_, refl, sym, _∙_}
-use mathlib.Core.List.{List, [], _∷_, _++_, List·Memᴰ, List·Memᴰ·head, List·Memᴰ·tail, List·Memᴰ·not-nil, List·Memᴰ·cases-cons, Memᴰ·append-left, Memᴰ·append-right}
+use mathlib.Core.List.{List, [], _∷_, List·Memᴰ, List·Memᴰ·head, List·Memᴰ·tail, List·Memᴰ·not-nil, List·Memᴰ·cases-cons}
 use mathlib.Core.Logic.{_⊎_, inl, inr, ⊎-elim}
 use native.Mathlib.Decide.{decLe}
 use native.Mathlib.Omega.{arith}
@@ -12,24 +12,22 @@ use Rattle.definitions.specs.Ranges.{Kind, kind, usedTables, allTables}
 use Rattle.definitions.specs.Pass1.{State}
 use Rattle.definitions.specs.Build.{planOf}
 use Rattle.definitions.specs.Walk.{Spot, End, nothing, wild, inLeaf, past}
-use Rattle.definitions.specs.Demand.{Proper, Moves, TablePlace, Needed}
+use Rattle.definitions.specs.Demand.{Proper, Moves}
 use Rattle.definitions.specs.Conditions.{BadPlaces, onLeaf, inSpan, onPast, onTable, onOther, noRoom}
 use Rattle.definitions.specs.declared.Moved.{Moved}
 use Rattle.definitions.specs.declared.Place.{Place}
 use Rattle.definitions.proofs.Splits.{onEq, impossible}
 use Rattle.definitions.proofs.Geometry.{of-part}
-use Rattle.definitions.proofs.Leaves.{Ascending}
 use Rattle.definitions.proofs.Checks.{Good}
-use Rattle.demands.proofs.Shared.Walks.{not-wild, leaf-level, same-level}
+use Rattle.demands.proofs.Shared.Walks.{not-wild, same-level}
 use Rattle.demands.proofs.Shared.Paging.{Paging, In, Addr, at, walk, ended}
-use Rattle.demands.proofs.Pass1.Passing.{Sound, Goes, Fixed}
+use Rattle.demands.proofs.Pass1.Passing.{Sound, Fixed}
 use Rattle.demands.proofs.Pass2.Leaf.{Other, Blocked, leafWay, pastWay, differs, full}
-use Rattle.demands.proofs.Pass2.Growth.{Need, grow-list}
 use Rattle.demands.proofs.Pass2.Leaves.{Stuck}
-use Rattle.demands.proofs.Both.Passes.{fits}
 use Rattle.demands.proofs.Both.Sound.{paging, passing, sound}
-use Rattle.demands.proofs.Both.Bridge.{moved, old, in-lands}
-use Rattle.demands.proofs.Both.Left.{stays, as-before, stop-same, tables-same, used-fits}
+use Rattle.demands.proofs.Both.Bridge.{old, in-lands}
+use Rattle.demands.proofs.Both.Left.{stays, as-before, stop-same, tables-same}
+use Rattle.demands.proofs.Both.Stop.{AtStop, at-stop, needs-before}
 
 -- a leaf of the list whose new span holds a, if there is one
 any : (xs : List Moved) (a : ℕ) → ((y : Moved) × List·Memᴰ y xs × In y a) ⊎ ((y : Moved) → List·Memᴰ y xs → ¬ In y a)
@@ -41,14 +39,6 @@ any (x ∷ xs) a =
     (λ w. inl (w .0, List·Memᴰ·tail (w .1), w .2))
     (λ w. inr (λ y e. ⊎-elim (λ d. rw d n) (w y) (List·Memᴰ·cases-cons e)))
     (any xs a))
-
-ascending-before : (ys : List Moved) (x : Moved) (zs : List Moved) → Ascending (ys ++ (x ∷ zs)) → (y : Moved) → List·Memᴰ y ys → y .address < x .address
-ascending-before [] x zs asc y e = absurd (List·Memᴰ·not-nil e)
-ascending-before (w ∷ ys) x zs asc y e =
-    ⊎-elim
-    (λ d. rw d (asc .0 x (Memᴰ·append-right ys (List·Memᴰ·head refl))))
-    (ascending-before ys x zs (asc .1) y)
-    (List·Memᴰ·cases-cons e)
 
 module _ (j : Job) (proper : Proper j) (good : Good j) {s : State} (X : Fixed (passing j) s)
     {n : ℕ} {q : Place} (T : Stuck (paging j) (s .moved) (s .mem) (usedTables (j .region)) n q) where
@@ -73,63 +63,27 @@ module _ (j : Job) (proper : Proper j) (good : Good j) {s : State} (X : Fixed (p
   S : Sound (passing j)
   S = sound j proper good
 
-  listed-in : (y : Moved) → List·Memᴰ y (x ∷ T .before) → List·Memᴰ y (s .moved)
-  listed-in y e =
-      rw (T .split)
-      (⊎-elim
-      (λ d. Memᴰ·append-right (T .before) (List·Memᴰ·head d))
-      (λ d. Memᴰ·append-left (x ∷ T .after) d)
-      (List·Memᴰ·cases-cons e))
+  Z : AtStop j T
+  Z = at-stop j proper good X T
 
-  earlier : (y : Moved) → List·Memᴰ y (T .before) → y .address < a
-  earlier = ascending-before (T .before) x (T .after) (rw (T .split) at (X .tidy))
-
-  goes : (y : Moved) → List·Memᴰ y (x ∷ T .before) → Goes (passing j) y
-  goes y e = X .sound y (listed-in y e)
-
-  reach : (y : Moved) → List·Memᴰ y (x ∷ T .before) → Addr W (y .address)
-  reach y e = fits S X y (goes y e) .address
-
-  o : Goes (passing j) x
-  o = goes x (List·Memᴰ·head refl)
-
-  mo : Moves j (o .0) x
-  mo = moved j x o
+  abbrev mo : Moves j (Z .from) x
+  mo = Z .moves
 
   r : Addr W a
-  r = reach x (List·Memᴰ·head refl)
+  r = Z .reach x (List·Memᴰ·head refl)
 
   -- no earlier leaf lies in the part that x is to map
   not-earlier : (y : Moved) → List·Memᴰ y (T .before) → ¬ (part (x .level) a ≡ part (x .level) (y .address))
-  not-earlier y e w = let h = of-part (x .level) (y .address) a (old j (o .0) x mo .whole) (sym w) in omega (arith, h .0, earlier y e)
+  not-earlier y e w = let h = of-part (x .level) (y .address) a (old j (Z .from) x mo .whole) (sym w) in omega (arith, h .0, Z .earlier y e)
 
   apart : ((y : Moved) → List·Memᴰ y (T .before) → ¬ In y a) → found ≡ walk W (s .mem) a
   apart out = B .apart a r out
 
-  landed : (y : Moved) → List·Memᴰ y (T .before) → at W m₁ (y .address) .level ≤ y .level
-  landed y e =
-      let w = B .inside y e (y .address) (reach y (List·Memᴰ·tail e)) refl in
-      let v = leaf-level read m₁ (at W m₁ (y .address)) (y .level) (y .entry) w in
-      omega arith
-
-  need-of : (p : TablePlace) → Need W (x ∷ T .before) (s .mem) p → Needed j p
-  need-of p c =
-      let g = goes (c .by) (c .one) in
-      record {
-        from = g .0;
-        leaf = c .by;
-        moves = moved j (c .by) g;
-        above = c .above;
-        way = c .way;
-        missing = omega (arith, c .missing, stop-same j proper good X (c .by .address) (reach (c .by) (c .one)));
-      }
-
-  no-room : (l : ℕ) → x .level < l → l ≤ here .level → allTables (planOf j .new) + x .level < u₁ + here .level → BadPlaces j 19 (placeAt a l)
+  no-room : (l : ℕ) → x .level < l → l ≤ here .level → allTables (planOf j .new) + l ≤ u₁ + here .level → BadPlaces j 19 (placeAt a l)
   no-room l lo le h =
-      let hi : x .level < here .level = omega (arith, B .fits (used-fits j good)) in
-      let g = grow-list W x (T .before) (s .mem) m₁ (usedTables (j .region)) u₁ (B .grown) (B .lower a r) landed hi in
-      noRoom mo lo (omega (arith, B .lower a r, stop-same j proper good X a r)) (g .0) (g .1) (λ p e. need-of p (g .2 p e))
-      (omega (arith, g .3, tables-same j))
+      let g = needs-before j proper good X T (x .level) (omega arith) in
+      noRoom mo lo (omega (arith, B .lower a r, stop-same j proper good X a r)) (g .list) (g .distinct) (λ p e. g .only p e .need)
+      (omega (arith, g .count, tables-same j))
 
   -- what stands at the new place of x is not x
   other : Other W x m₁ → BadPlaces j 18 (placeAt a (x .level))
@@ -142,7 +96,7 @@ module _ (j : Job) (proper : Proper j) (good : Good j) {s : State} (X : Fixed (p
       (λ c. ⊎-elim
       (λ y.
       let v : found ≡ inLeaf (y .0 .level) (y .0 .entry) = B .inside (y .0) (y .1) a r (y .2) in
-      let e : y .0 .level ≡ x .level = sym (leaf-level read m₁ here (y .0 .level) (y .0 .entry) v) ∙ c .0 in
+      let e : y .0 .level ≡ x .level = sym (Z .at-leaf (y .0 .level) (y .0 .entry) v) ∙ c .0 in
       absurd (not-earlier (y .0) (y .1) (rw e at (y .2))))
       (λ out.
       let v = apart out in
@@ -159,7 +113,7 @@ module _ (j : Job) (proper : Proper j) (good : Good j) {s : State} (X : Fixed (p
   in-span l e y my i lo w =
       let v : found ≡ inLeaf (y .level) (y .entry) = B .inside y my a r i in
       let el : l ≡ y .level = cc in
-      rw el (inSpan mo (in-lands j a y (goes y (List·Memᴰ·tail my)) i) (omega arith))
+      rw el (inSpan mo (in-lands j a y (Z .going y (List·Memᴰ·tail my)) i) (omega arith))
 
   reason : {n : ℕ} {q : Place} → Blocked W x m₁ u₁ n q → BadPlaces j n q
   reason (leafWay {l} {e} lo w) =
@@ -181,7 +135,7 @@ module _ (j : Job) (proper : Proper j) (good : Good j) {s : State} (X : Fixed (p
       onPast mo lo (sym (as-before j proper good X a r st) ∙ v))
       (any (T .before) a)
   reason (differs el d) = rw el (other d)
-  reason (full {l} lo le w h) = no-room l lo le h
+  reason (full {l} lo le w h some) = no-room l lo le h
 
   pub refused-for : BadPlaces j n q
   refused-for = reason (T .blocked)

@@ -1,5 +1,5 @@
 -- Where pass 1 stands: every table that is seen is done below its cursor. What is done is earlier in walk order than what is
--- not (Sorted), and in the tables above the present one only what lies beyond it is not done (Ahead). Builds on Sequence. Assumes nothing.
+-- not (Sorted), and in the tables above the present one only what lies beyond it is not done (Ahead). Assumes nothing.
 use Prim.Native.Nat.{ℕ, suc, _+_, _*_, _<_, _≤_}
 use mathlib.Core.Path.{_≡_, sym, _∙_, ap}
 use mathlib.Core.Bool.{true, false}
@@ -10,8 +10,8 @@ use Rattle.definitions.specs.Geometry.{span}
 use Rattle.definitions.specs.Order.{Earlier}
 use Rattle.definitions.proofs.Splits.{onBool, onEq, impossible}
 use Rattle.definitions.proofs.Puts.{put-same, put-other}
+use Rattle.definitions.proofs.Order.{earlier-trans, entryAt, earlier-under, earlier-next, from-mono, table-end, entry-end}
 use Rattle.demands.proofs.Shared.Walks.{Map, stand}
-use Rattle.demands.proofs.Pass1.Sequence.{earlier-trans, earlier-under, earlier-next, from-mono, table-end, entry-end}
 
 -- entry i, of level l, of the table t, which is seen
 pub record At (R : Tables) (P : Map) (t l i : ℕ) : Type 0 where
@@ -21,7 +21,7 @@ pub record At (R : Tables) (P : Map) (t l i : ℕ) : Type 0 where
 
 abbrev pub Sorted : Tables → Map → (ℕ → ℕ) → Type 0
 Sorted R P c =
-    (t l i t₁ l₁ i₁ : ℕ) → At R P t l i → i < c t → At R P t₁ l₁ i₁ → c t₁ ≤ i₁ → Earlier l (P .pre t * 512 + i) l₁ (P .pre t₁ * 512 + i₁)
+    (t l i t₁ l₁ i₁ : ℕ) → At R P t l i → i < c t → At R P t₁ l₁ i₁ → c t₁ ≤ i₁ → Earlier (entryAt l (P .pre t * 512 + i)) (entryAt l₁ (P .pre t₁ * 512 + i₁))
 
 -- what is not done of other tables than t maps addresses from b on
 abbrev pub Ahead : Tables → Map → (ℕ → ℕ) → (t b : ℕ) → Type 0
@@ -46,7 +46,7 @@ module _ {R : Tables} {P : Map} (c : ℕ → ℕ) {t l i : ℕ} (a : At R P t l 
 
   -- what is not done of other tables comes after the entry
   abbrev Next : Type 0
-  Next = (t₁ l₁ i₁ : ℕ) → ¬ (t₁ ≡ t) → At R P t₁ l₁ i₁ → c t₁ ≤ i₁ → Earlier l p l₁ (P .pre t₁ * 512 + i₁)
+  Next = (t₁ l₁ i₁ : ℕ) → ¬ (t₁ ≡ t) → At R P t₁ l₁ i₁ → c t₁ ≤ i₁ → Earlier (entryAt l p) (entryAt l₁ (P .pre t₁ * 512 + i₁))
 
   -- the entry at the cursor is done, which is the next in walk order
   sorted-on : Next → Sorted R P c → Sorted R P (put c t (suc i))
@@ -54,7 +54,7 @@ module _ {R : Tables} {P : Map} (c : ℕ → ℕ) {t l i : ℕ} (a : At R P t l 
       let old : c t₂ ≤ i₂ = onEq t₂ t
       (λ w. omega (arith, put-same c t (suc i) t₂ w, ap c w))
       (λ n. omega (arith, put-other c t (suc i) t₂ n)) in
-      let here : Earlier l p l₂ (P .pre t₂ * 512 + i₂) = onEq t₂ t
+      let here : Earlier (entryAt l p) (entryAt l₂ (P .pre t₂ * 512 + i₂)) = onEq t₂ t
       (λ w. rw (w, same-level a a₂ w) (earlier-next l (P .pre t) i i₂ (omega (arith, put-same c t (suc i) t₂ w))))
       (λ n. next t₂ l₂ i₂ n a₂ old) in
       onEq t₁ t
@@ -93,7 +93,7 @@ module _ {R : Tables} {P : Map} (c : ℕ → ℕ) {t l i : ℕ} (a : At R P t l 
       level-under t₁ l₁ i₁ w a₁ = sym (put-same (P .ht) t′ l t₁ w) ∙ a₁ .height
 
       -- what is under the entry comes after it
-      under : (t₁ l₁ i₁ : ℕ) → t₁ ≡ t′ → At R′ P′ t₁ l₁ i₁ → Earlier l p l₁ (P′ .pre t₁ * 512 + i₁)
+      under : (t₁ l₁ i₁ : ℕ) → t₁ ≡ t′ → At R′ P′ t₁ l₁ i₁ → Earlier (entryAt l p) (entryAt l₁ (P′ .pre t₁ * 512 + i₁))
       under t₁ l₁ i₁ w a₁ = rw (put-same (P .pre) t′ p t₁ w, level-under t₁ l₁ i₁ w a₁) (earlier-under l₁ p i₁)
 
       sorted-mark : Sorted R P c → Sorted R′ P′ (put c t′ 0)
@@ -106,7 +106,7 @@ module _ {R : Tables} {P : Map} (c : ℕ → ℕ) {t l i : ℕ} (a : At R P t l 
           let first = S t₁ l₁ i₁ t l i b₁ e₁ a (omega arith) in
           rw (put-other (P .pre) t′ p t₁ n)
           (onEq t₂ t′
-          (λ w. earlier-trans l₁ (P .pre t₁ * 512 + i₁) l p l₂ (P′ .pre t₂ * 512 + i₂) first (under t₂ l₂ i₂ w a₂))
+          (λ w. earlier-trans (entryAt l₁ (P .pre t₁ * 512 + i₁)) (entryAt l p) (entryAt l₂ (P′ .pre t₂ * 512 + i₂)) first (under t₂ l₂ i₂ w a₂))
           (λ n₂. rw (put-other (P .pre) t′ p t₂ n₂)
           (S t₁ l₁ i₁ t₂ l₂ i₂ b₁ e₁ (back t₂ l₂ i₂ n₂ a₂) (omega (arith, put-other c t′ 0 t₂ n₂))))))
 

@@ -1,6 +1,6 @@
 -- Pass 1, walk order: where it stops is the first entry at which something is wrong (first-halt), and where it goes through nothing is wrong
--- (none-wrong). All that comes before the entry at which it stops is done, and at what is done nothing is wrong (fine). Builds on Reached, Steps
--- and Sequence. Assumes nothing.
+-- (none-wrong). All that comes before the entry at which it stops is done, and at what is done nothing is wrong (fine). Builds on Reached and
+-- Steps. Assumes nothing.
 use Prim.Native.Nat.{ℕ, suc, _+_, _*_, _<_, _≤_}
 use mathlib.Core.Path.{_≡_, refl, sym, _∙_, ap}
 use mathlib.Core.List.{_∷_, List·Memᴰ, List·Memᴰ·cases-cons}
@@ -9,19 +9,19 @@ use native.Mathlib.Decide.{decLe}
 use native.Mathlib.Omega.{arith}
 use Rattle.definitions.specs.Geometry.{span}
 use Rattle.definitions.specs.Pass1.{Act, move, follow, refuse, State}
-use Rattle.definitions.specs.Demand.{first, later, Met as MetFrom, partOf, wordOf}
+use Rattle.definitions.specs.Demand.{first, later, Met as MetFrom, partOf, placeOf, wordOf}
 use Rattle.definitions.specs.Order as O
 use Rattle.definitions.specs.Order.{Earlier, refused, toRoot, toSame, taken, full}
 use Rattle.definitions.specs.declared.Moved.{Moved}
 use Rattle.definitions.specs.declared.Place.{Place}
 use Rattle.definitions.proofs.Splits.{onEq}
 use Rattle.definitions.proofs.Leaves.{ascending-distinct}
+use Rattle.definitions.proofs.Order.{earlier-trans, earlier-other, entryAt, earlier-under, from-mono, table-end, entry-end, wrong-full}
 use Rattle.demands.proofs.Shared.Lists.{within-length}
 use Rattle.demands.proofs.Shared.Walks.{Map}
 use Rattle.demands.proofs.Shared.Paging.{Paging}
 use Rattle.demands.proofs.Pass1.Passing.{Passing, actAs, Sound, Seen, Way}
 use Rattle.demands.proofs.Pass1.Ways.{way-low}
-use Rattle.demands.proofs.Pass1.Sequence.{earlier-trans, earlier-other, earlier-under, from-mono, table-end, entry-end}
 use Rattle.demands.proofs.Pass1.Cursor.{At, same-level}
 use Rattle.demands.proofs.Pass1.Invariant.{Done, seen-at}
 use Rattle.demands.proofs.Pass1.Sources.{Src, led, All}
@@ -37,7 +37,7 @@ module _ (K : Passing) where
   Met = MetFrom old m₀ H root
 
   abbrev pub Before : Met → Met → Type 0
-  Before b e = Earlier (b .l) (partOf b) (e .l) (partOf e)
+  Before b e = Earlier (placeOf b) (placeOf e)
 
   -- what is done at it
   abbrev pub does : Met → Act
@@ -76,6 +76,9 @@ module _ {K : Passing} {s : State} {P : Map} {c : ℕ → ℕ} (F : All K s P c)
       let ep : b .p ≡ e .p = sym (mb .0 .prefix) ∙ ap (P .pre) et ∙ me .0 .prefix in
       (omega arith, omega arith)
 
+  same-place : (b e : Met K) → b .l ≡ e .l → partOf b ≡ partOf e → ¬ Before K b e
+  same-place b e el ep = earlier-other (placeOf b) (placeOf e) el (rw (el, ep) refl)
+
   fine : (e : Met K) → Q e → (n : ℕ) (q : Place) → ¬ Wrong K e n q
   unfolding source
   fine e qe n q (refused w) = done e qe (refuse n q) w
@@ -83,11 +86,11 @@ module _ {K : Passing} {s : State} {P : Map} {c : ℕ → ℕ} (F : All K s P c)
   fine e qe n q (toSame {t} {v} {v₁} w b r wb z) =
       let de = done e qe (follow t v) w in
       let db = done b (before b e r qe) (follow t v₁) wb in
-      earlier-other (b .l) (partOf b) (e .l) (partOf e) (sym (db .1 .height) ∙ de .1 .height) (sym (db .1 .prefix) ∙ de .1 .prefix) r
+      same-place b e (sym (db .1 .height) ∙ de .1 .height) (sym (db .1 .prefix) ∙ de .1 .prefix) r
   fine e qe n q (taken {x} {y} w b r wb ea z) =
       let qb = before b e r qe in
       let o = one b e qb qe (F .hist .uniq y x (source b qb (move y) wb) (source e qe (move x) w) ea) in
-      earlier-other (b .l) (partOf b) (e .l) (partOf e) (o .0) (o .1) r
+      same-place b e (o .0) (o .1) r
   fine e qe n q (full {x} w free xs d from h z) =
       let g = within-length (x ∷ xs) (s .moved) ((λ i. let b = from x i in free (b .0) x (b .1) (b .2) refl), d)
       (λ y i. ⊎-elim (λ v. rw v (listed e qe x w)) (λ v. let b = from y v in listed (b .0) (before (b .0) e (b .1) qe) y (b .2))
@@ -96,15 +99,18 @@ module _ {K : Passing} {s : State} {P : Map} {c : ℕ → ℕ} (F : All K s P c)
 
 -- ---- where pass 1 stops
 module _ {K : Passing} (S : Sound K) (n : ℕ) (q : Place) (h : Halt K n q) where
-  open Passing K using (paging as W, old, act, m₀)
+  open Passing K using (paging as W, old, act, room, m₀)
   open Paging W using (H, root)
   open Halt h using (s, P, c, all, t, l, i, cursor, ahead, fault)
 
   here : Met K
   here = record { t = t; l = l; p = P .pre t; i = i; low = h .at .low; way = rw (h .at .height) at (all .inv .reached t (h .at .seen)) }
 
+  abbrev halt : Place
+  halt = entryAt l (P .pre t * 512 + i)
+
   -- what is not done does not come before
-  not-before : (t₁ l₁ i₁ : ℕ) → At (s .reached) P t₁ l₁ i₁ → c t₁ ≤ i₁ → ¬ Earlier l₁ (P .pre t₁ * 512 + i₁) l (P .pre t * 512 + i)
+  not-before : (t₁ l₁ i₁ : ℕ) → At (s .reached) P t₁ l₁ i₁ → c t₁ ≤ i₁ → ¬ Earlier (entryAt l₁ (P .pre t₁ * 512 + i₁)) halt
   not-before t₁ l₁ i₁ a d =
       onEq t₁ t
       (λ w.
@@ -117,16 +123,16 @@ module _ {K : Passing} (S : Sound K) (n : ℕ) (q : Place) (h : Halt K n q) wher
       omega (arith, table-end l (P .pre t) i (h .at .low), entry-end l (P .pre t * 512 + i)) in
       ⊎-elim (λ e. omega arith) (λ e. omega arith))
 
-  below-cursor : (t₁ l₁ i₁ : ℕ) → At (s .reached) P t₁ l₁ i₁ → Earlier l₁ (P .pre t₁ * 512 + i₁) l (P .pre t * 512 + i) → i₁ < c t₁
+  below-cursor : (t₁ l₁ i₁ : ℕ) → At (s .reached) P t₁ l₁ i₁ → Earlier (entryAt l₁ (P .pre t₁ * 512 + i₁)) halt → i₁ < c t₁
   below-cursor t₁ l₁ i₁ a e = elim (decLe (c t₁) i₁) [ yes d ↦ absurd (not-before t₁ l₁ i₁ a d e) | no n ↦ omega arith ]
 
   -- a table at which an entry comes before was seen, in its place
-  way-before : {t₁ h₁ p₁ : ℕ} → Way K t₁ h₁ p₁ → (l₁ i₁ : ℕ) → h₁ ≡ suc l₁ → Earlier l₁ (p₁ * 512 + i₁) l (P .pre t * 512 + i) → Seen s P t₁ h₁ p₁
+  way-before : {t₁ h₁ p₁ : ℕ} → Way K t₁ h₁ p₁ → (l₁ i₁ : ℕ) → h₁ ≡ suc l₁ → Earlier (entryAt l₁ (p₁ * 512 + i₁)) halt → Seen s P t₁ h₁ p₁
   way-before (first et eh ep) l₁ i₁ el e = rw (et, eh, ep) (all .hist .top)
   way-before (later {t = t₁} {l = l₁} {p = p₁} {i = i₁} {t′} {p′} w hi eo ep) l₂ i₂ el e =
       let k₁ : ℕ = 512 * t₁ + i₁ in
-      let up : Earlier l₁ p′ l₂ (p′ * 512 + i₂) = rw el (earlier-under l₂ p′ i₂) in
-      let on : Earlier l₁ (p₁ * 512 + i₁) l (P .pre t * 512 + i) = rw ep at (earlier-trans l₁ p′ l₂ (p′ * 512 + i₂) l (P .pre t * 512 + i) up e) in
+      let up : Earlier (entryAt l₁ p′) (entryAt l₂ (p′ * 512 + i₂)) = rw el (earlier-under l₂ p′ i₂) in
+      let on : Earlier (entryAt l₁ (p₁ * 512 + i₁)) halt = rw ep at (earlier-trans (entryAt l₁ p′) (entryAt l₂ (p′ * 512 + i₂)) halt up e) in
       let c₁ = way-before w l₁ i₁ refl on in
       let a₁ = seen-at c₁ hi in
       let d = all .inv .done t₁ l₁ i₁ a₁ (below-cursor t₁ l₁ i₁ a₁ (rw (c₁ .prefix) on)) in
@@ -140,7 +146,7 @@ module _ {K : Passing} (S : Sound K) (n : ℕ) (q : Place) (h : Halt K n q) wher
       (m, below-cursor (e .t) (e .l) (e .i) (seen-at m (e .low)) (rw (m .prefix) b))
 
   before-trans : (a b : Met K) → Before K a b → Before K b here → Before K a here
-  before-trans a b = earlier-trans (a .l) (partOf a) (b .l) (partOf b) (here .l) (partOf here)
+  before-trans a b = earlier-trans (placeOf a) (placeOf b) (placeOf here)
 
   fine-before : (e : Met K) → Before K e here → (n′ : ℕ) (q′ : Place) → ¬ Wrong K e n′ q′
   fine-before = fine all (λ e. Before K e here) before-trans met-before
@@ -171,7 +177,9 @@ module _ {K : Passing} (S : Sound K) (n : ℕ) (q : Place) (h : Halt K n q) wher
       (all .hist .parent t′ e)
   wrong-here (taking {x} {y} w my e z) = let b = moved-before y my in taken w (b .0) (b .1) (b .2) e z
   wrong-here (filling {x} w free hl z) =
-      full w (λ b y r wb. free y (listed-before b r y wb)) (s .moved) (ascending-distinct (s .moved) (all .hist .tidy)) moved-before hl z
+      rw z
+      (wrong-full old m₀ H root act room here x w (λ b y r wb. free y (listed-before b r y wb)) (s .moved) (ascending-distinct (s .moved) (all .hist .tidy))
+      moved-before (omega (arith, all .hist .small)))
 
   pub first-halt : First K n q
   first-halt =

@@ -2,43 +2,35 @@
 -- Assumes nothing.
 use Prim.Native.Nat.{ℕ, suc}
 use mathlib.Core.Path.{_≡_, refl, sym, _∙_, ap}
-use mathlib.Core.Logic.{_⊎_, inl, inr, ⊎-elim}
+use mathlib.Core.Logic.{⊎-elim}
 use native.Mathlib.Nat.{eq-of-mul-eq-mul-right}
 use native.Mathlib.Omega.{arith}
 use Rattle.definitions.specs.Geometry.{span}
 use Rattle.definitions.specs.Demand.{partOf, placeOf}
 use Rattle.definitions.specs.Pass1.{Act, keep, move, follow, refuse}
 use Rattle.definitions.specs.Order as O
-use Rattle.definitions.specs.Order.{refused, toRoot, toSame, taken, full}
 use Rattle.definitions.specs.declared.Moved.{Moved}
 use Rattle.definitions.specs.declared.Place.{Place}
 use Rattle.definitions.proofs.Geometry.{span-pos}
+use Rattle.definitions.proofs.Order as P
+use Rattle.definitions.proofs.Order.{TakenBefore, shape, first-lowest, not-after-one}
+use Rattle.demands.proofs.Shared.Paging.{Paging}
 use Rattle.demands.proofs.Pass1.Passing.{Passing}
 use Rattle.demands.proofs.Pass1.Ways.{way-one}
-use Rattle.demands.proofs.Pass1.Sequence.{earlier-total}
-use Rattle.demands.proofs.Pass1.First.{Met, Before, does, Wrong, First}
+use Rattle.demands.proofs.Pass1.First.{Met, does, First}
 
 module _ (K : Passing) where
-  -- a leaf before `e` goes where `x` goes, or none does
+  open Passing K using (paging as W, old, act, room, m₀)
+  open Paging W using (H, root)
+
   abbrev Taken : Met K → Moved → Type 0
-  Taken e x = (b : Met K) × (y : Moved) × Before K b e × (does K b ≡ move y) × (y .address ≡ x .address)
+  Taken = TakenBefore old m₀ H root act
 
   abbrev Free : Met K → Moved → Type 0
-  Free e x = O.Free (K .old) (K .m₀) (K .paging .H) (K .paging .root) (K .act) e (x .address)
+  Free e x = O.Free old m₀ H root act e (x .address)
 
-  -- what is wrong, by what is done
   abbrev Shape : Met K → ℕ → Place → Act → Type 0
-  Shape e n q keep = ⊥
-  Shape e n q (refuse n₁ q₁) = (n ≡ n₁) × (q ≡ q₁)
-  Shape e n q (follow t v) = (n ≡ 10) × (q ≡ placeOf e)
-  Shape e n q (move x) = (q ≡ placeOf e) × (((n ≡ 14) × Taken e x) ⊎ ((n ≡ 15) × Free e x))
-
-  shape : (e : Met K) (n : ℕ) (q : Place) → Wrong K e n q → Shape e n q (does K e)
-  shape e n q (refused w) = rw w (refl, refl)
-  shape e n q (toRoot w z) = rw w (refl, z)
-  shape e n q (toSame w b r wb z) = rw w (refl, z)
-  shape e n q (taken {y = y} w b r wb ea z) = rw w (z, inl (refl, (b, y, r, wb, ea)))
-  shape e n q (full w free xs d from h z) = rw w (z, inr (refl, free))
+  Shape = P.Shape old m₀ H root act
 
   -- ---- of two entries that have one place
   module _ (e f : Met K) (el : e .l ≡ f .l) (ep : partOf e ≡ partOf f) where
@@ -65,16 +57,13 @@ module _ (K : Passing) where
   first-one n n₁ q q₁ F G =
       let e = F .entry in
       let f = G .entry in
-      ⊎-elim
-      (λ b. absurd (G .none e b n q (F .wrong)))
-      (⊎-elim
-      (λ b. absurd (F .none f b n₁ q₁ (G .wrong)))
-      (λ w.
+      let w = not-after-one (placeOf e) (placeOf f)
+      (first-lowest old m₀ H root act room n q F f n₁ q₁ (G .wrong)) (first-lowest old m₀ H root act room n₁ q₁ G e n q (F .wrong)) in
       let el : e .l ≡ f .l = w .0 in
       let ep : partOf e ≡ partOf f = eq-of-mul-eq-mul-right (span (f .l)) (span-pos (f .l)) (partOf e) (partOf f) (rw el at (w .1)) in
       let pp : e .p ≡ f .p = omega (arith, e .low, f .low) in
       let ii : e .i ≡ f .i = omega (arith, e .low, f .low) in
       let et : e .t ≡ f .t = way-one K (e .way) (f .way) (ap suc el) pp in
       let ed : does K f ≡ does K e = cc in
-      same-shape e f el ep (does K e) n n₁ q q₁ (shape e n q (F .wrong)) (rw ed at (shape f n₁ q₁ (G .wrong)))))
-      (earlier-total (e .l) (partOf e) (f .l) (partOf f))
+      let sf = shape old m₀ H root act room f n₁ q₁ (G .wrong) in
+      same-shape e f el ep (does K e) n n₁ q q₁ (shape old m₀ H root act room e n q (F .wrong)) (rw ed at sf)

@@ -61,7 +61,9 @@ module _ (W : Paging) (x : Moved) where
     leafWay : {l e : ℕ} → L < l → walk W m a ≡ inLeaf l e → Blocked m u 16 (placeAt a l)
     pastWay : {l e : ℕ} → L < l → walk W m a ≡ past l e → Blocked m u 17 (placeAt a l)
     differs : {l : ℕ} → l ≡ L → Other m → Blocked m u 18 (placeAt a l)
-    full : {l : ℕ} → L < l → l ≤ at W m a .level → walk W m a ≡ nothing → sizeIn W + L < u + at W m a .level → Blocked m u 19 (placeAt a l)
+    -- a table for each level above l is taken, and no table is left
+    full : {l : ℕ} → L < l → l ≤ at W m a .level → walk W m a ≡ nothing → sizeIn W + l ≤ u + at W m a .level
+        → (u ≤ sizeIn W → u + at W m a .level ≤ sizeIn W + l) → Blocked m u 19 (placeAt a l)
 
   -- the leaf is merged where it stood already, and written where nothing was
   abbrev pub Merges : Fill → Fill → Type 0

@@ -153,7 +153,7 @@ module _ (W : Paging) (x : Moved) (ra : Addr W (x .address)) (f g : Fill)
   blocked (leafWay lo e) = leafWay lo (sym (w .same a ra) ∙ e)
   blocked (pastWay lo e) = pastWay lo (sym (w .same a ra) ∙ e)
   blocked (differs el d) = differs el (⊎-elim (λ c. absurd (omega (arith, w .one))) (λ c. absurd (c .1 (w .same a ra ∙ w .none-there))) d)
-  blocked (full lo hi e h) = full lo (omega (arith, w .one)) (w .none-there) (omega (arith, w .one))
+  blocked (full lo hi e h some) = full lo (omega (arith, w .one)) (w .none-there) (omega (arith, w .one)) (λ k. omega (arith, w .one, some (omega arith)))
 
   pub from : (o : Step Fill) → Ok W x g o → Ok W x f o
   from (stop n p) ok = blocked ok
