@@ -1,4 +1,4 @@
--- The starred examples of document 01 and a few beside them, as a list, and the test that one holds.
+-- The starred examples of the specification, section 12, as a list, and the test that one holds.
 -- Assumes nothing.
 use mathlib.Core.Bool.{Bool, true, false, _&&_}
 use mathlib.Core.List.{List, [], _∷_}
@@ -89,17 +89,15 @@ yields used moved merged m = record {
 unfoldable pub refuses : ℕ → ℕ → ℕ → ℕ → Built
 refuses n a l o = refused n (record { address = a; level = l; offset = o })
 
--- two leaves, of which the first is to move beyond the second; at both new places stands another
+-- §12.17: two leaves, of which the first is to move beyond the second; at both new places stands another
 unfoldable pub crossing : Job
 unfolding jobWith
 crossing =
     jobWith (0x200000 ∷ 0x3FFFFF ∷ 0x600000 ∷ 0x400000 ∷ 0x5FFFFF ∷ 0x200000 ∷ []) 0x8000
     (put (put (put base (slot 2 2) 0x4000E3) (slot 2 3) 0x6000E1) (slot 2 4) 0x8000E1)
 
--- the starred ones. Then four of the order of refusals: in pass 1 the leaf at 0x200000 (12) comes before the root's last entry
--- (10); in pass 2 the lower new address comes first, though pass 1 met it last; and of two tables that are wanting on a way the
--- higher one comes first, and the lower one where one is free. And last: a leaf moves to the old slot of another that moves
--- on, so nothing may be put in while pass 1 still runs
+-- §12.1 to §12.11 and §12.15; then the order of refusals, §12.16 to §12.19; and §12.20, since nothing may be put in while pass 1
+-- still runs (§13.2)
 unfoldable pub examples : List Example
 unfolding crossing
 examples =

@@ -1,5 +1,5 @@
--- The order in which the passes meet the entries, and the first of them at which something is wrong in pass 1, or in the
--- way in pass 2 (demand 3): stated without the passes.
+-- The order of places, and the first of them at which something is wrong in pass 1, or in the way in pass 2 (§7.1): stated by
+-- what is done at single entries, without the passes' state.
 -- Assumes nothing.
 use mathlib.Core.Path.{_≡_}
 use mathlib.Core.List.{List, List·Memᴰ}
@@ -16,8 +16,8 @@ use Rattle.definitions.specs.Demand.{Met, wordOf, partOf, startOf, place
 use Rattle.definitions.specs.Conditions.{BadInput, BadTables, BadPlaces, None}
 
 -- ---- the order of places, for both passes: the address is lower, or the same and the level is higher. In pass 1, over the
--- places of entries, it is walk order, "entries in order, each subtable fully at its entry"; in pass 2, over new addresses
--- and the levels on the way to them, it is "by ascending new address, from the moved root down"
+-- places of entries, it is walk order (§7.4); in pass 2, over new addresses and the levels on the way to them, it is the order
+-- of §8.1, "by ascending new address, each from the moved root down"
 abbrev pub Earlier : Place → Place → Type 0
 Earlier p q = (p .address < q .address) ⊎ ((p .address ≡ q .address) × (q .level < p .level))
 
@@ -97,7 +97,7 @@ pub record FirstInWay (j : Job) (n : ℕ) (q : Place) : Type 0 where
   pub fits : (ps : List TablePlace) → Distinct ps → ((p : TablePlace) → List·Memᴰ p ps → NeededBefore j q p)
       → usedTables (j .region) + length ps ≤ allTables (j .region)
 
--- ---- "The first that applies is given", "pass 1 in walk order, then pass 2": Proper j → InOrder j
+-- ---- §7.1, "gives the first that applies": Proper j → InOrder j
 pub record InOrder (j : Job) : Type 0 where
   -- a refused build: an input's condition; or none of these, and the first in walk order; or none of both, and the first in
   -- the way of pass 2
