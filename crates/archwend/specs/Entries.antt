@@ -19,13 +19,16 @@ pub record Leaves (a : Answer) (n word : ℕ) : Type 0 where
   pub number : n ≡ a .number
   pub word-is : word ≡ a .word
 
+-- true is 1
 abbrev pub flag : Bool → ℕ
 flag b = cond b 1 0
 
+-- how many values there are
 abbrev pub counted : Option ℕ → ℕ
 counted none = 0
 counted (some x) = 1
 
+-- the value, or 0
 abbrev pub orZero : Option ℕ → ℕ
 orZero none = 0
 orZero (some x) = x
