@@ -1,7 +1,8 @@
 /* Archwend: moves the page tables of a guest whose memory was moved. Link libarchwend.a (x86-64).
  *
- * No pointer may be null, also where its length is 0. Words are aligned to 8 bytes. The memory that a call writes shares no byte
- * with any other memory lent to it. Nothing else is required: any numbers are taken, and what can't be done is refused. */
+ * No pointer may be null, also where its length is 0. Words are aligned to 8 bytes, those of masks to 4. The memory that a call
+ * writes shares no byte with any other memory lent to it. Nothing else is required: any numbers are taken, and what can't be done
+ * is refused. */
 #ifndef ARCHWEND_H
 #define ARCHWEND_H
 
@@ -33,7 +34,8 @@ enum archwend_number {
     ARCHWEND_LARGE_IN_THE_WAY = 16, /* a large leaf stands in the way of a moved leaf */
     ARCHWEND_WAY_OUTSIDE = 17,      /* the way to a moved leaf leaves the moved region */
     ARCHWEND_OCCUPIED = 18,         /* a different entry stands where a moved leaf goes */
-    ARCHWEND_NO_FREE_TABLE = 19     /* the region has no free table left */
+    ARCHWEND_NO_FREE_TABLE = 19,    /* the region has no free table left */
+    ARCHWEND_ENTRY = 20             /* the address has a bit that the entry can't hold, the level is above 3, or the kind of entry is unknown */
 };
 
 /* The words of a build's report. After a refusal the counts are 0; after acceptance the place is. */
@@ -77,6 +79,72 @@ uint64_t archwend_set_page_data(
     uint64_t page_gpa,   /* the page's address before the move */
     const uint8_t *data, /* the page */
     size_t data_len      /* 4096, or 0: then nothing is changed */
+);
+
+/* One page table entry is a word. The level of a root's entries is 3; entries of level 0 map 4 KiB. */
+
+/* The kinds of a fresh entry; a leaf's is its level. */
+enum archwend_kind {
+    ARCHWEND_LEAF_4K = 0, /* present, writable, accessed, dirty */
+    ARCHWEND_LEAF_2M = 1, /* also large */
+    ARCHWEND_LEAF_1G = 2, /* also large */
+    ARCHWEND_TABLE = 3    /* points to a table: present, writable, accessed */
+};
+
+/* Makes the entry a fresh one. Returns ARCHWEND_OK, or ARCHWEND_ENTRY and the entry stays as it came. */
+uint64_t archwend_set_entry(
+    uint64_t *entry,
+    uint64_t kind, /* see enum archwend_kind */
+    uint64_t addr  /* a multiple of the size mapped, 4096 for a table, and below 2^52 */
+);
+
+/* Sets the entry's address, bits 51 to 12. Returns ARCHWEND_OK, or ARCHWEND_ENTRY and the entry stays as it came. */
+uint64_t archwend_set_addr(
+    uint64_t *entry,
+    uint64_t addr /* no bit outside 51 to 12 */
+);
+
+/* Reads a present entry's address. Returns 1, or 0 where the entry is absent. */
+uint64_t archwend_gpa(
+    uint64_t entry,
+    uint64_t *gpa /* the address, or 0 */
+);
+
+/* Whether the entry is present (bit 0): 1 or 0. */
+uint64_t archwend_is_present(uint64_t entry);
+
+/* Whether the entry is large (bit 7): 1 or 0. */
+uint64_t archwend_is_large_page(uint64_t entry);
+
+/* Makes all bits of the entry 0. */
+void archwend_clear(uint64_t *entry);
+
+/* How many bytes one entry of a level maps. Returns ARCHWEND_OK, or ARCHWEND_ENTRY for a level above 3. */
+uint64_t archwend_mapping_size(
+    uint64_t level,
+    uint64_t *size /* bytes, or 0 */
+);
+
+/* Which entry of a level's table maps an address. Returns ARCHWEND_OK, or ARCHWEND_ENTRY for a level above 3. */
+uint64_t archwend_get_amd64_pte_index(
+    uint64_t gva,
+    uint64_t level,
+    uint64_t *index /* 0 to 511 */
+);
+
+/* Which table of a region holds an address. Returns 1, or 0 where the address is outside. No rule of regions is asked. */
+uint64_t archwend_calculate_page_table_index(
+    uint64_t gpa,  /* the region, as above; `used` is not looked at */
+    uint64_t size,
+    uint64_t used,
+    uint64_t address,
+    uint64_t *index /* the table's number, or 0 */
+);
+
+/* Splits a compatibility mask into its single bits. Returns how many there are. */
+uint64_t archwend_extract_individual_masks(
+    uint32_t mask,
+    uint32_t masks[32] /* the single bits, lowest first, then zeros */
 );
 
 #ifdef __cplusplus

@@ -7,24 +7,4 @@ set -euo pipefail
 count=${1:-100000}
 seed=${2:-1}
 . "$(dirname "$0")/common.sh"
-build compare release checked
-said=$(mktemp -d)
-trap 'rm -rf "$said"' EXIT
-jobs_of() { run "$1" compare "$count" "$seed" ${OUTSIDE:+differences.txt} ${OUTSIDE:+${JOB:-}} >"$said/$1"; }
-jobs_of release &
-first=$!
-failed=0
-jobs_of checked || failed=1
-wait $first || failed=1
-cat "$said/release" "$said/checked"
-if [ $failed != 0 ]; then
-    echo "compare: FAILED (seed $seed)"
-    exit 1
-fi
-[ -z "${OUTSIDE:-}" ] || exit 0
-same=$(tail -qn1 "$said/release" "$said/checked" | sed 's/^[a-z ]*: //' | sort -u)
-if [ "$(echo "$same" | wc -l)" != 1 ]; then
-    echo "compare: FAILED: the two builds counted differently (seed $seed)"
-    exit 1
-fi
-echo "compare: seed $seed, both builds: $same"
+both compare "$seed" "$count" "$seed" ${OUTSIDE:+differences.txt} ${OUTSIDE:+${JOB:-}}

@@ -27,6 +27,6 @@ cut -d: -f1 "$room/header" >"$room/names"
 same definitions "$room/definitions" header "$room/names"
 same header "$room/header" loader "$room/loader"
 same header "$room/header" relocate "$room/relocate"
-[ "$(wc -l <"$room/header")" = 19 ] || failed=1
-if [ $failed = 0 ]; then echo "refusals: 19, the same in all four"; else echo "refusals: FAILED"; fi
+[ "$(wc -l <"$room/header")" = 20 ] || failed=1
+if [ $failed = 0 ]; then echo "refusals: 20, the same in all four"; else echo "refusals: FAILED"; fi
 exit $failed

@@ -1,6 +1,6 @@
 #!/usr/bin/env bash
 # Tests of the loader's crate, of the C header and, where the original is there, of both against it. Ends with 'N passed, M failed'.
-# The first run installs what is missing. JOBS: how many jobs are compared.
+# The first run installs what is missing. JOBS, CALLS: how many jobs, and calls of entry operations, are compared.
 set -uo pipefail
 cd "$(dirname "$0")/.."
 . tests/host.sh
@@ -34,6 +34,7 @@ step "C program" c_program
 if [ -e "${ARCHWEND_SHARED:-../shared}/docs/src/src/page_table.rs" ]; then
     step "differences" oracle/differences.sh
     step "comparison" oracle/compare.sh "${JOBS:-1000}" "${SEED:-1}"
+    step "entries' comparison" oracle/entries.sh "${CALLS:-20000}" "${SEED:-1}"
 else
     echo "LEFT OUT: the runs against the Rust original, which is not here (../shared/docs/src/src/page_table.rs)"
 fi

@@ -118,7 +118,7 @@ pub struct Report {
 /// A refusal.
 #[derive(Debug, Clone, Copy, PartialEq, Eq)]
 pub struct Error {
-    /// Which: 1 to 19, or [`Error::NO_MEMORY`].
+    /// Which: 1 to 20, or [`Error::NO_MEMORY`].
     pub number: u64,
     /// Where.
     pub place: Place,
@@ -173,6 +173,7 @@ refusals! {
     WAY_OUTSIDE = 17, "the way to a moved leaf leaves the moved region";
     OCCUPIED = 18, "a different entry stands where a moved leaf goes";
     NO_FREE_TABLE = 19, "the region has no free table left";
+    ENTRY = 20, "the address has a bit that the entry can't hold, the level is above 3, or the kind of entry is unknown";
 }
 
 impl fmt::Display for Error {

@@ -191,7 +191,7 @@ fn any_numbers_are_taken() {
 
 #[test]
 fn each_refusal_has_its_sentence() {
-    let all: Vec<&str> = (1..=19).chain([Error::NO_MEMORY]).map(|n| refusal(n, 0, 0, 0).sentence()).collect();
+    let all: Vec<&str> = (1..=20).chain([Error::NO_MEMORY]).map(|n| refusal(n, 0, 0, 0).sentence()).collect();
     let mut single = all.clone();
     single.sort();
     single.dedup();

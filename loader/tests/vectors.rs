@@ -1,5 +1,6 @@
-//! The Rust's recorded answers (crates/vectors/data) through the public calls. Entry operations are not exported, so those lines
-//! are the proved program's alone.
+//! The Rust's recorded answers (crates/vectors/data) through the public calls, and those of entry operations through the library's.
+
+mod exports;
 
 use archwend::*;
 use std::collections::BTreeMap;
@@ -13,12 +14,37 @@ const BUILD_LINE: u64 = 5;
 const OUTPUT_LINE: u64 = 6;
 const BLANK_LINE: u64 = 7;
 const LOAD_LINE: u64 = 8;
+const FRESH_LINE: u64 = 9;
+const SET_LINE: u64 = 10;
+const INDEX_LINE: u64 = 11;
+const READ_LINE: u64 = 12;
+const MASK_LINE: u64 = 13;
 const PLACE_LINE: u64 = 14;
+const BITS_LINE: u64 = 15;
+const CLEAR_LINE: u64 = 16;
+const SIZE_LINE: u64 = 17;
+const TABLE_LINE: u64 = 18;
 
 /// The words of the tables that are not 0.
 fn words(bytes: &[u8]) -> BTreeMap<u64, u64> {
     let word = |c: &[u8]| c.iter().rev().fold(0, |w, b| w << 8 | *b as u64);
     bytes.chunks(8).map(word).enumerate().filter(|(_, w)| *w != 0).map(|(k, w)| (k as u64, w)).collect()
+}
+
+/// A line of an operation on an entry, a level, the region's tables or a mask.
+fn operation(w: &[u64], region: (u64, u64, u64)) {
+    match w[0] {
+        FRESH_LINE => assert_eq!(exports::set_entry(0, w[1], w[2]), (0, w[3])),
+        SET_LINE => assert_eq!(exports::set_addr(w[1], w[2]), (0, w[3])),
+        INDEX_LINE => assert_eq!(exports::get_amd64_pte_index(w[1], w[2]), (0, w[3])),
+        READ_LINE => assert_eq!(exports::gpa(w[1]), (w[2], w[3])),
+        MASK_LINE => assert_eq!(exports::extract_individual_masks(w[1] as u32).1[w[2] as usize] as u64, w[3]),
+        BITS_LINE => assert_eq!((exports::is_present(w[1]), exports::is_large_page(w[1])), (w[2], w[3])),
+        CLEAR_LINE => assert_eq!(exports::clear(w[1]), w[2]),
+        SIZE_LINE => assert_eq!(exports::mapping_size(w[1]), (0, w[2])),
+        TABLE_LINE => assert_eq!(exports::calculate_page_table_index(region, w[1]), (w[2], w[3])),
+        other => panic!("no such line: {other:x}"),
+    }
 }
 
 #[test]
@@ -28,7 +54,7 @@ fn the_recorded_answers() {
     let mut region = (0, 0, 0);
     let (mut entries, mut ranges, mut wanted, mut loads) = (BTreeMap::new(), Vec::new(), BTreeMap::new(), Vec::new());
     let (mut cpu, mut offset, mut place, mut answer) = (CpuPagingState { cr3: 0, cr4: 0 }, 0, None, [0; 3]);
-    let mut builds = 0;
+    let (mut builds, mut operations) = (0, 0);
     for line in text.lines() {
         let mut w: Vec<u64> = line.split(' ').map(|x| u64::from_str_radix(x, 16).expect("hexadecimal")).collect();
         w.resize(4, 0);
@@ -74,8 +100,12 @@ fn the_recorded_answers() {
                 }
                 builds += 1;
             }
-            _ => {}
+            _ => {
+                operation(&w, region);
+                operations += 1;
+            }
         }
     }
     assert_eq!(builds, 150);
+    assert!(operations > 2000);
 }

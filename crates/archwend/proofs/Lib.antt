@@ -1,3 +1,4 @@
+pub mod Forms
 pub mod One
 -- what a caller may rely on
 pub mod Headlines

@@ -5,6 +5,8 @@ ghost use lib.ListN.{length};
 ghost use Rattle.definitions.specs.Build.{jobOf};
 ghost use Rattle.archwend.specs.Exports.{regionAt, Answers, LoadsPage};
 
+pub mod entries;
+
 // Builds the relocated tables of the image into the output; report: number, used, moved, merged, reached, and the place's
 // address, level and offset.
 #[no_mangle]

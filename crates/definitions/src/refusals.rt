@@ -1,5 +1,4 @@
-// Document 01's refusals by name; the header has the same names after ARCHWEND_, and the sentences (tests/refusals.sh). 20 is of
-// entry operations, which are not exported; their answer is levels::Answer.
+// The refusals by name (§9.1); the header has the same names after ARCHWEND_, and the sentences (tests/refusals.sh).
 
 pub const REGION: u64 = 1;
 
@@ -38,3 +37,6 @@ pub const WAY_OUTSIDE: u64 = 17;
 pub const OCCUPIED: u64 = 18;
 
 pub const NO_FREE_TABLE: u64 = 19;
+
+// Of the operations on entries and levels, whose answer is levels::Answer.
+pub const ENTRY: u64 = 20;

@@ -261,6 +261,9 @@ fn put_sentence(number: u64) -> bool {
         refusals::WAY_OUTSIDE => put(b"the way to a moved leaf leaves the moved region"),
         refusals::OCCUPIED => put(b"a different entry stands where a moved leaf goes"),
         refusals::NO_FREE_TABLE => put(b"the region has no free table left"),
+        refusals::ENTRY => put(
+            b"the address has a bit that the entry can't hold, the level is above 3, or the kind of entry is unknown",
+        ),
         _ => put_checks(number),
     }
 }

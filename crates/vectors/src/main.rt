@@ -1,9 +1,8 @@
-// Replays the Rust's recorded answers (data/vectors, made as data/README says) through the proved operations. A line is up to four
-// words in hexadecimal: what it is, and its numbers.
+// Replays the Rust's recorded answers (data/vectors, made as data/README says) through the proved operations, those on entries,
+// levels, tables and masks as the library exports them. A line is up to four words in hexadecimal: what it is, and its numbers.
+use archwend::entries;
 use build::CpuPagingState;
 use definitions::Region;
-use entry::PageTableEntry;
-use entry::PageTableEntryType;
 use libc::STDOUT_FILENO;
 
 const IMAGE: usize = 0x8000;
@@ -39,12 +38,13 @@ const MASK_LINE: u64 = 13;
 
 const PLACE_LINE: u64 = 14;
 
-// What a fresh entry is, by its line's second word; any other points to a table.
-const FRESH_4K: u64 = 0;
+const BITS_LINE: u64 = 15;
 
-const FRESH_2M: u64 = 1;
+const CLEAR_LINE: u64 = 16;
 
-const FRESH_1G: u64 = 2;
+const SIZE_LINE: u64 = 17;
+
+const TABLE_LINE: u64 = 18;
 
 // Where the registers are: 0 to 3 the line's words, 4 the word being read.
 const AT: usize = 4;
@@ -76,6 +76,10 @@ const OFFSET: usize = 16;
 const REGISTERS: usize = 17;
 
 fn wide(x: u8) -> u64 {
+    x as u64
+}
+
+fn wide_mask(x: u32) -> u64 {
     x as u64
 }
 
@@ -172,74 +176,96 @@ fn run(
     count(false, v);
 }
 
-fn good(answer: levels::Answer, wanted: u64) -> bool {
-    match answer {
-        levels::Answer::Good(x) => x == wanted,
-        levels::Answer::Refused(_) => false,
-    }
+// Whether the entry 0 becomes v[3], a fresh one of kind v[1] for the address v[2].
+fn fresh_same(v: &[u64; REGISTERS]) -> bool {
+    let mut e: u64 = 0;
+    let n = entries::archwend_set_entry(&mut e, v[1], v[2]);
+    n == 0 && e == v[3]
 }
 
-// A fresh entry of kind v[1] for the address v[2].
-fn fresh(v: &[u64; REGISTERS]) -> levels::Answer {
-    let old = PageTableEntry { entry: 0 };
-    match v[1] {
-        FRESH_4K => old.set_entry(PageTableEntryType::Leaf4kPage(v[2])),
-        FRESH_2M => old.set_entry(PageTableEntryType::Leaf2MbPage(v[2])),
-        FRESH_1G => old.set_entry(PageTableEntryType::Leaf1GbPage(v[2])),
-        _ => old.set_entry(PageTableEntryType::Pde(v[2])),
-    }
+// Whether the entry v[1] becomes v[3] where its address is set to v[2].
+fn set_same(v: &[u64; REGISTERS]) -> bool {
+    let mut e: u64 = v[1];
+    let n = entries::archwend_set_addr(&mut e, v[2]);
+    n == 0 && e == v[3]
 }
 
-// Whether reading the address of v[1] gives v[3] where v[2] is 1, and nothing where it is 0.
+// Whether reading the address of v[1] gives v[2], 1 for there being one, and v[3].
 fn read_same(v: &[u64; REGISTERS]) -> bool {
-    let e = PageTableEntry { entry: v[1] };
-    let g = e.gpa();
-    match g {
-        entry::Gpa::At(a) => v[2] == 1 && a == v[3],
-        entry::Gpa::Absent => v[2] == 0,
-    }
+    let mut gpa: u64 = 0;
+    let n = entries::archwend_gpa(v[1], &mut gpa);
+    n == v[2] && gpa == v[3]
+}
+
+// Whether clearing v[1] gives v[2].
+fn clear_same(v: &[u64; REGISTERS]) -> bool {
+    let mut e: u64 = v[1];
+    entries::archwend_clear(&mut e);
+    e == v[2]
+}
+
+// Whether the address v[1] has the index v[3] at level v[2].
+fn index_same(v: &[u64; REGISTERS]) -> bool {
+    let mut index: u64 = 0;
+    let n = entries::archwend_get_amd64_pte_index(v[1], v[2], &mut index);
+    n == 0 && index == v[3]
+}
+
+// Whether one entry of a level maps so much.
+fn size_same(level: u64, wanted: u64) -> bool {
+    let mut size: u64 = 0;
+    let n = entries::archwend_mapping_size(level, &mut size);
+    n == 0 && size == wanted
+}
+
+// Whether the region's table with the address v[1] is found as v[2] says, 1 for there being one, and is number v[3].
+fn table_same(v: &[u64; REGISTERS]) -> bool {
+    let mut index: u64 = 0;
+    let n = entries::archwend_calculate_page_table_index(
+        v[GPA],
+        v[SIZE],
+        v[USED],
+        v[1],
+        &mut index,
+    );
+    n == v[2] && index == v[3]
 }
 
 // Whether the mask v[1] has the single bit v[3] at place v[2], 0 past its last.
 fn mask_same(v: &[u64; REGISTERS]) -> bool {
-    let s = masks::extract_individual_masks((v[1] % 0x1_0000_0000) as u32);
-    let bits = s.bits;
+    let mut bits = [0u32; 32];
+    entries::archwend_extract_individual_masks((v[1] % 0x1_0000_0000) as u32, &mut bits);
     let i = (v[2] % 32) as usize;
-    bits[i] as u64 == v[3]
+    wide_mask(bits[i]) == v[3]
 }
 
-fn entry_line(v: &mut [u64; REGISTERS]) {
+fn bits_line(v: &mut [u64; REGISTERS]) {
+    let present = entries::archwend_is_present(v[1]);
+    count(present == v[2], v);
+    let large = entries::archwend_is_large_page(v[1]);
+    count(large == v[3], v);
+}
+
+// Whether an operation of one answer gives what its line says.
+fn answer_same(v: &[u64; REGISTERS]) -> bool {
     match v[0] {
-        FRESH_LINE => {
-            let a = fresh(v);
-            count(good(a, v[3]), v);
-        }
-        SET_LINE => {
-            let e = PageTableEntry { entry: v[1] };
-            let a = e.set_addr(v[2]);
-            count(good(a, v[3]), v);
-        }
-        INDEX_LINE => {
-            let a = levels::get_amd64_pte_index(v[1], v[2]);
-            count(good(a, v[3]), v);
-        }
-        READ_LINE => {
-            let same = read_same(v);
-            count(same, v);
-        }
-        MASK_LINE => {
-            let same = mask_same(v);
-            count(same, v);
-        }
-        _ => count(false, v),
+        FRESH_LINE => fresh_same(v),
+        SET_LINE => set_same(v),
+        READ_LINE => read_same(v),
+        CLEAR_LINE => clear_same(v),
+        INDEX_LINE => index_same(v),
+        SIZE_LINE => size_same(v[1], v[2]),
+        TABLE_LINE => table_same(v),
+        MASK_LINE => mask_same(v),
+        _ => false,
     }
 }
 
 // The place of a 12: address, mapped size, offset.
 fn place_line(v: &mut [u64; REGISTERS]) {
     count(v[PLACE] == v[1], v);
-    let a = levels::mapping_size(v[LEVEL]);
-    count(good(a, v[2]), v);
+    let same = size_same(v[LEVEL], v[2]);
+    count(same, v);
     count(v[OFFSET] == v[3], v);
 }
 
@@ -285,7 +311,11 @@ fn line(
         }
         LOAD_LINE => load(image, v),
         PLACE_LINE => place_line(v),
-        _ => entry_line(v),
+        BITS_LINE => bits_line(v),
+        _ => {
+            let same = answer_same(v);
+            count(same, v);
+        }
     }
 }
 

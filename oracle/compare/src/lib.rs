@@ -1,6 +1,7 @@
 //! The proved code's answers to jobs, and where they differ from the original's.
 
 pub mod classes;
+pub mod entries;
 
 use archwend::{build_in, set_page_data_in, CpuPagingState, Error, Region, Report};
 use jobs::{document, Answer, Built, Job};

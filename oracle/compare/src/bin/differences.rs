@@ -2,11 +2,12 @@
 //! recorded: `ours`, and `wraps` or `checks` for the original in this build. `record` prints the file with today's answers.
 
 use compare::classes::{recorded, WHO};
+use compare::entries::{self, exports};
 use compare::Ours;
 use jobs::{run, show, Answer, Built};
-use original::page_table::{PageTable, PageTableEntryType as Kind};
+use original::hv_defs::Vtl;
+use original::page_table::PageTableRelocationBuilder;
 use std::panic::{catch_unwind, AssertUnwindSafe};
-use zerocopy::{FromZeros, IntoBytes};
 
 const THIS: &str = env!("OVERFLOW");
 
@@ -57,34 +58,44 @@ fn main() {
         }
     }
     if !record {
-        failed += entries();
+        failed += entry_operations();
         println!("differences ({THIS}): {cases} inputs and the entry operations run, {failed} not as recorded");
     }
     std::process::exit((failed != 0) as i32);
 }
 
-/// Entry operations outside the shared domain; the library exports none, so only the original is run.
-fn entries() -> u32 {
-    let fresh = || PageTable::new_zeroed()[0];
-    let set = |k: Kind| {
-        let mut e = fresh();
-        catch_unwind(AssertUnwindSafe(|| e.set_entry(k))).ok().map(|_| e.as_bytes().to_vec())
-    };
-    let addr = |a: u64| catch_unwind(AssertUnwindSafe(|| fresh().set_addr(a))).is_ok();
-    let at = |level: u8| {
-        let mut t = PageTable::new_zeroed();
-        let first = &t[0] as *const _ as usize;
-        catch_unwind(AssertUnwindSafe(|| t.entry(1 << 48, level) as *const _ as usize)).ok().map(|p| (p - first) / 8)
-    };
-    let checks = THIS == "checks";
+/// Entry operations outside the shared domain. Ours is a number and a word; the original gives a word or panics.
+fn entry_operations() -> u32 {
+    let old = 0x1063;
+    let kept = (entries::REFUSED, old);
+    let none = (entries::REFUSED, 0);
+    let set = |kind, a| (exports::set_entry(old, kind, a), entries::set_entry(old, kind, a));
+    let addr = |a| (exports::set_addr(old, a), entries::set_addr(old, a));
+    let at = |gva, level| (exports::get_amd64_pte_index(gva, level), entries::index(gva, level as u8));
+    // A shift by 66.
+    let far = if THIS == "checks" { None } else { Some(1) };
     let list = [
-        ("set_entry, a bit past 51: ored in", set(Kind::Pde(1 << 52)) == Some(((1u64 << 52) | 0x23).to_le_bytes().to_vec())),
-        ("set_entry, unaligned: panics", set(Kind::Leaf2MbPage(0x1000)).is_none() && set(Kind::Pde(1)).is_none()),
-        ("set_addr, a bit outside the field: panics", !addr(1) && !addr(1 << 52)),
-        ("entry at level 4: takes bits 48 and up", at(4) == Some(1)),
-        ("entry at level 6: a shift by 66", if checks { at(6).is_none() } else { at(6) == Some(0) }),
+        ("E1", set(3, 1 << 52) == (kept, Some((1 << 52) | 0x23))),
+        ("E2", set(1, 0x1000) == (kept, None)),
+        ("E3", set(3, 1) == (kept, None)),
+        ("E4", addr(1) == (kept, None)),
+        ("E5", addr(1 << 52) == (kept, None)),
+        ("E6", at(1 << 48, 4) == (none, Some(1))),
+        ("E7", at(1 << 2, 6) == (none, far)),
+        ("E8", exports::mapping_size(4) == none),
+        ("E9", exports::set_entry(old, 4, 0) == kept),
+        ("E10", contains()),
     ];
     let bad: Vec<_> = list.iter().filter(|l| !l.1).collect();
     bad.iter().for_each(|l| println!("DIFFERENT NOW: {}", l.0));
     bad.len() as u32
+}
+
+/// The last page below 2^64.
+fn contains() -> bool {
+    let base = 0u64.wrapping_sub(4096);
+    let ours = exports::calculate_page_table_index((base, 4096, 0), base);
+    let b = PageTableRelocationBuilder::new(base, 4096, 0, 0, Vtl::Vtl0);
+    let theirs = catch_unwind(AssertUnwindSafe(|| b.contains(base))).ok();
+    ours == (1, 0) && theirs == if THIS == "checks" { None } else { Some(false) }
 }

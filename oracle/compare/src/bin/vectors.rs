@@ -1,11 +1,11 @@
-//! vectors SEED: prints some hundred of the original's answers, in the form that crates/vectors replays: small jobs of the shared
-//! domain, so many for each answer, then entry operations, indices and masks. Lines are words in hexadecimal.
+//! vectors SEED: prints some of the original's answers, in the form that crates/vectors replays: small jobs of the shared domain, so
+//! many for each answer, then some hundred calls of each operation on entries, levels, tables and masks. Lines are words in
+//! hexadecimal.
 
+use compare::entries::{clear, entry, gpa, index, leaf_at, root_at, set_addr, set_entry, some_address, some_region};
 use compare::{difference, in_shared_domain, ours};
 use jobs::random::{job, Random};
 use jobs::{document, run, words, Answer, Built, Job};
-use original::page_table::{PageTable, PageTableEntry, PageTableEntryType as Kind};
-use zerocopy::{FromBytes, IntoBytes, Unalign};
 
 /// The number, whether leaves were merged, and how many jobs are wanted.
 const WANTED: [(u64, bool, usize); 5] = [(0, false, 60), (0, true, 30), (6, false, 10), (12, false, 25), (19, false, 25)];
@@ -25,6 +25,10 @@ const INDEX_LINE: u64 = 11;
 const READ_LINE: u64 = 12;
 const MASK_LINE: u64 = 13;
 const PLACE_LINE: u64 = 14;
+const BITS_LINE: u64 = 15;
+const CLEAR_LINE: u64 = 16;
+const SIZE_LINE: u64 = 17;
+const TABLE_LINE: u64 = 18;
 
 fn small(job: &Job, image: &[u64]) -> bool {
     job.used <= 0x8000
@@ -69,39 +73,48 @@ fn print_job(job: &Job, image: &[u64], theirs: &Answer) {
     println!("{BLANK_LINE:x}");
 }
 
-fn entry(word: u64) -> PageTableEntry {
-    let mut list = [0; 512];
-    list[0] = word;
-    let bytes = jobs::bytes(&list);
-    <[Unalign<PageTable>]>::ref_from_bytes(&bytes).expect("one table")[0].into_inner()[0]
-}
-
-fn value(e: &PageTableEntry) -> u64 {
-    words(e.as_bytes())[0]
-}
+/// How many lines of each operation there are.
+const EACH: u64 = 300;
 
 fn print_entries(r: &mut Random) {
-    for i in 0..40 {
-        let level = i % 4;
-        let unit = if level == 3 { 4096 } else { document::span(level) };
+    for i in 0..EACH {
+        let kind = i % 4;
+        let unit = if kind == 3 { 4096 } else { document::span(kind as usize) };
         let a = (r.word() & document::FIELD) / unit * unit;
-        let mut e = entry(r.word());
-        e.set_entry([Kind::Leaf4kPage(a), Kind::Leaf2MbPage(a), Kind::Leaf1GbPage(a), Kind::Pde(a)][level]);
-        println!("{FRESH_LINE:x} {level:x} {a:x} {:x}", value(&e));
-        let (old, a) = (r.word(), r.word() & document::FIELD);
-        let mut e = entry(old);
-        println!("{READ_LINE:x} {old:x} {:x} {:x}", e.gpa().is_some() as u64, e.gpa().unwrap_or(0));
-        e.set_addr(a);
-        println!("{SET_LINE:x} {old:x} {a:x} {:x}", value(&e));
-        let a = r.word();
-        let mut t = <[Unalign<PageTable>]>::ref_from_bytes(&[0; 4096]).expect("one table")[0].into_inner();
-        let first = &t[0] as *const PageTableEntry as usize;
-        let at = (t.entry(a, level as u8) as *const PageTableEntry as usize - first) / 8;
-        println!("{INDEX_LINE:x} {a:x} {level:x} {at:x}");
+        println!("{FRESH_LINE:x} {kind:x} {a:x} {:x}", set_entry(r.word(), kind, a).expect("no panic"));
+        let (word, a, gva) = (r.word(), r.word() & document::FIELD, r.word());
+        let (present, address) = gpa(word);
+        println!("{READ_LINE:x} {word:x} {present:x} {address:x}");
+        println!("{SET_LINE:x} {word:x} {a:x} {:x}", set_addr(word, a).expect("no panic"));
+        println!("{INDEX_LINE:x} {gva:x} {kind:x} {:x}", index(gva, kind as u8).expect("no panic"));
+        println!("{BITS_LINE:x} {word:x} {:x} {:x}", entry(word).is_present() as u64, entry(word).is_large_page() as u64);
+        println!("{CLEAR_LINE:x} {word:x} {:x}", clear(word).expect("no panic"));
     }
-    for mask in [0, 1, 0x8000_0000, 0x8000_0001, 0x0001_1000] {
+    for i in 0..EACH {
+        let level = i % 4;
+        let mut path: Vec<usize> = (level..4).map(|_| r.below(512) as usize).collect();
+        // A root's entry is no leaf: what it maps shows in the address of the first leaf below entry `at`.
+        let at = r.within(1, 511) as usize;
+        if level == 3 {
+            path = vec![at, 0];
+        }
+        let (va, size) = leaf_at(&path, document::span(level as usize) as i64 + 1);
+        println!("{SIZE_LINE:x} {level:x} {:x}", if level == 3 { va / at as u64 } else { size });
+    }
+    for _ in 0..EACH / 10 {
+        let (at, count) = some_region(r);
+        println!("{REGION_LINE:x} {at:x} {:x} {:x}", count * 4096, count * 4096);
+        for _ in 0..10 {
+            let address = some_address(r, at, count);
+            let (inside, number) = root_at(at, count, address);
+            println!("{TABLE_LINE:x} {address:x} {inside:x} {number:x}");
+        }
+    }
+    let mut masks = vec![0, 1, 0x8000_0000, 0x8000_0001, 0x0001_1000, u32::MAX];
+    masks.extend((0..30).map(|_| (r.word() & r.word()) as u32));
+    for mask in masks {
         let bits = original::extract_individual_masks(mask);
-        for i in 0..=bits.len() {
+        for i in 0..(bits.len() + 1).min(32) {
             println!("{MASK_LINE:x} {mask:x} {i:x} {:x}", bits.get(i).unwrap_or(&0));
         }
     }
