@@ -12,7 +12,7 @@ use Rattle.definitions.specs.Ranges.{tableIn}
 use Rattle.definitions.specs.declared.Region.{Region}
 use Rattle.masks.specs.Promises.{Splits}
 
--- ---- the forms that C has for an answer
+-- ---- the forms that C has for an answer (§3.14)
 
 -- the number is returned, and the word is left where the caller said
 pub record Leaves (a : Answer) (n word : ℕ) : Type 0 where
@@ -38,7 +38,8 @@ pub record Finds (o : Option ℕ) (n word : ℕ) : Type 0 where
   pub found : n ≡ counted o
   pub value : word ≡ orZero o
 
--- entry e becomes a fresh one of a kind: 3 is a table entry, any other a leaf of that level, which `setLeaf` refuses above 2
+-- entry e becomes a fresh one of a kind (§3.12): 3 is a table entry, any other a leaf of that level, which `setLeaf` refuses
+-- above 2
 unfoldable pub freshOf : ℕ → ℕ → ℕ → Answer
 freshOf kind e a = cond (eqb kind 3) (setTable e a) (setLeaf kind e a)
 
