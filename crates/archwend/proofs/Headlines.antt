@@ -11,7 +11,7 @@ use Prim.Native.Nat.{ℕ, suc, _+_, _-_, _*_, _%_, _^_, _≤_, _<_}
 use native.Mathlib.Omega.{arith}
 use lib.ListN.{length, getD, replicate, length-replicate}
 use Rattle.definitions.specs.Words.{slot, wordsOf}
-use Rattle.definitions.specs.Geometry.{four, rootHeight, span}
+use Rattle.definitions.specs.Geometry.{rootHeight, span}
 use Rattle.definitions.specs.Entry.{leafFlags, translate}
 use Rattle.definitions.specs.Inputs.{Job, nowhere, Built}
 use Rattle.definitions.specs.Ranges.{kind, movedRegion, tableAt, usedTables}
@@ -383,17 +383,18 @@ module _
 
 -- ---- `archwend_set_page_data`: any call, and what it leaves by its promise
 module _
+    (cr4 : ℕ)
     (r : Region)
     (image : List ℕ)
     (gpa : ℕ)
     (page : List ℕ)
     (n : ℕ)
     (after : List ℕ)
-    (loads : LoadsPage r image gpa page n after)
+    (loads : LoadsPage cr4 r image gpa page n after)
   where
     -- ---- for the proofs
     ends : LoadEnds r image gpa page (loaded n after)
-    ends = rw (loads .number, loads .loaded) (load-ends four r image gpa page)
+    ends = rw (loads .number, loads .loaded) (load-ends (geometryOf cr4) r image gpa page)
 
     put-in : n ≡ 0 → ¬ (length page ≡ 0) → PutIn r image gpa page after
     put-in ok some = ⊎-elim (λ z. absurd (z .0 ok)) (⊎-elim (λ z. absurd (some (z .1))) (λ z. z .1)) ends

@@ -7,7 +7,6 @@ use Prim.Native.Nat.{ℕ}
 use Rattle.definitions.specs.Inputs.{Job}
 use Rattle.definitions.specs.declared.Region.{Region}
 use Rattle.definitions.specs.Entry.{Answer, setAddress, readAddress, mappedSize, levelIndex}
-use Rattle.definitions.specs.Geometry.{four}
 use Rattle.definitions.specs.Ranges.{tableIn}
 use Rattle.archwend.specs.Exports.{Answers, LoadsPage}
 use Rattle.archwend.specs.Entries.{Leaves, Finds, freshOf, SetsFresh, SetsAddr, ReadsAddr, FlagsPresent, FlagsLarge, ClearsWord}
@@ -19,8 +18,8 @@ module _ (j : Job) (r r′ o o′ s s′ : List ℕ) where
   one-build a b = (a .reported ∙ sym (b .reported), a .built ∙ sym (b .built), a .cleared ∙ sym (b .cleared))
 
 -- the number, and the image
-module _ (r : Region) (image : List ℕ) (gpa : ℕ) (page : List ℕ) (n n′ : ℕ) (xs xs′ : List ℕ) where
-  pub one-page : LoadsPage r image gpa page n xs → LoadsPage r image gpa page n′ xs′ → (n ≡ n′) × (xs ≡ xs′)
+module _ (cr4 : ℕ) (r : Region) (image : List ℕ) (gpa : ℕ) (page : List ℕ) (n n′ : ℕ) (xs xs′ : List ℕ) where
+  pub one-page : LoadsPage cr4 r image gpa page n xs → LoadsPage cr4 r image gpa page n′ xs′ → (n ≡ n′) × (xs ≡ xs′)
   one-page a b = (a .number ∙ sym (b .number), a .loaded ∙ sym (b .loaded))
 
 -- ---- the number n that is returned, and the word w that is left
@@ -41,10 +40,10 @@ module _ {n n′ w w′ : ℕ} where
   one-read e = one-found (readAddress e)
 
   pub one-size : (level : ℕ) → SizesLevel level n w → SizesLevel level n′ w′ → (n ≡ n′) × (w ≡ w′)
-  one-size level = one-left (mappedSize four level)
+  one-size level = one-left (mappedSize level)
 
   pub one-level-index : (gva level : ℕ) → IndexesLevel gva level n w → IndexesLevel gva level n′ w′ → (n ≡ n′) × (w ≡ w′)
-  one-level-index gva level = one-left (levelIndex four level gva)
+  one-level-index gva level = one-left (levelIndex level gva)
 
   pub one-table : (r : Region) (a : ℕ) → FindsTable r a n w → FindsTable r a n′ w′ → (n ≡ n′) × (w ≡ w′)
   one-table r a = one-found (tableIn r a)

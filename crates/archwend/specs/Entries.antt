@@ -7,7 +7,6 @@ use mathlib.Core.Option.{Option, none, some}
 use Prim.Native.Nat.{ℕ}
 use lib.Dec.{eqb}
 use Rattle.definitions.specs.Entry.{Answer, present, large, setTable, setLeaf, setAddress, readAddress, mappedSize, levelIndex}
-use Rattle.definitions.specs.Geometry.{four}
 use Rattle.definitions.specs.Ranges.{tableIn}
 use Rattle.definitions.specs.declared.Region.{Region}
 use Rattle.masks.specs.Promises.{Splits}
@@ -64,10 +63,10 @@ abbrev pub ClearsWord : ℕ → Type 0
 ClearsWord word = word ≡ 0
 
 abbrev pub SizesLevel : ℕ → ℕ → ℕ → Type 0
-SizesLevel level n word = Leaves (mappedSize four level) n word
+SizesLevel level n word = Leaves (mappedSize level) n word
 
 abbrev pub IndexesLevel : ℕ → ℕ → ℕ → ℕ → Type 0
-IndexesLevel gva level n word = Leaves (levelIndex four level gva) n word
+IndexesLevel gva level n word = Leaves (levelIndex level gva) n word
 
 abbrev pub FindsTable : Region → ℕ → ℕ → ℕ → Type 0
 FindsTable r a n word = Finds (tableIn r a) n word

@@ -5,8 +5,7 @@ use mathlib.Core.List.{List, [], _∷_}
 use Prim.Native.Nat.{ℕ}
 use lib.ListN.{replicate}
 use Rattle.definitions.specs.Inputs.{Job}
-use Rattle.definitions.specs.Build.{build, outputBytes}
-use Rattle.definitions.specs.Geometry.{four}
+use Rattle.definitions.specs.Build.{geometryOf, build, outputBytes}
 use Rattle.definitions.specs.Load.{load}
 use Rattle.definitions.specs.declared.Region.{Region}
 use Rattle.definitions.specs.declared.Report.{Report}
@@ -27,6 +26,6 @@ pub record Answers (j : Job) (report output scratch : List ℕ) : Type 0 where
   pub cleared : scratch ≡ replicate (j .scratchLength) 0
 
 -- `archwend_set_page_data`: the number, and every byte of the image
-pub record LoadsPage (r : Region) (image : List ℕ) (gpa : ℕ) (page : List ℕ) (n : ℕ) (after : List ℕ) : Type 0 where
-  pub number : n ≡ load four r image gpa page .number
-  pub loaded : after ≡ load four r image gpa page .image
+pub record LoadsPage (cr4 : ℕ) (r : Region) (image : List ℕ) (gpa : ℕ) (page : List ℕ) (n : ℕ) (after : List ℕ) : Type 0 where
+  pub number : n ≡ load (geometryOf cr4) r image gpa page .number
+  pub loaded : after ≡ load (geometryOf cr4) r image gpa page .image

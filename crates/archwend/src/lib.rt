@@ -57,13 +57,15 @@ pub extern "C" fn archwend_set_page_data(
     used: u64,
     page_gpa: u64,
     data: &[u8],
+    cr4: u64,
 ) -> u64
-    ensures { λ n. ⌜ LoadsPage (regionAt gpa size used) (now (image .entry)) «page_gpa» (now («data» .entry)) n (now (image .exit)) ⌝ }
+    ensures { λ n. ⌜ LoadsPage cr4 (regionAt gpa size used) (now (image .entry)) «page_gpa» (now («data» .entry)) n (now (image .exit)) ⌝ }
 {
     let r = Region {
         gpa: gpa,
         size: size,
         used: used,
     };
-    region::set_page_data(image, levels::four(), r, page_gpa, data)
+    let geometry = levels::geometry_of(cr4);
+    region::set_page_data(image, geometry, r, page_gpa, data)
 }

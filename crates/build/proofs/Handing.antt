@@ -18,7 +18,8 @@ use Rattle.definitions.proofs.Geometry.{SoundGeometry}
 use Rattle.definitions.proofs.Ranges.{SoundRegion, region-sound, offset-sound}
 use Rattle.definitions.proofs.Step.{After}
 use Rattle.definitions.proofs.LeafLevels.{Low, low-first}
-use Rattle.definitions.proofs.Checks.{geometry-sound, startState}
+use Rattle.definitions.proofs.Checks.{startState}
+use Rattle.definitions.proofs.Cr4.{geometry-sound}
 use Rattle.definitions.proofs.Build.{build-first, build-second, build-accepted}
 use Rattle.definitions.specs.declared.Refusal.{Refusal}
 use Rattle.definitions.specs.declared.Region.{Region}

@@ -60,9 +60,6 @@ fn check_inputs(
     if (output_length as u64) < r.size {
         return Start::Refused(Refusal::plain(refusals::LENGTHS));
     }
-    if cpu.cr4 / 0x1000 % 2 == 1 {
-        return Start::Refused(Refusal::plain(refusals::FIVE_LEVELS));
-    }
     let found = region::calculate_page_table_index(r, cpu.cr3);
     let TableIndex::At(table) = found else {
         return Start::Refused(Refusal::plain(refusals::CR3));

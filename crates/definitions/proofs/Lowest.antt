@@ -4,15 +4,15 @@
 use mathlib.Core.Path.{_≡_, refl}
 use mathlib.Core.Bool.{Bool, true, false, not, _&&_, _||_}
 use mathlib.Core.List.{List, [], _∷_}
-use Prim.Native.Nat.{ℕ, zero, suc, _/_, _%_, _≤_}
+use Prim.Native.Nat.{ℕ, zero, suc, _≤_}
 use lib.Dec.{eqb, ltb, leb}
-use borrow.Author.Tests.{eq-eqb, ne-eqb, lt-ltb, le-leb, leb-true}
+use borrow.Author.Tests.{ne-eqb, lt-ltb, le-leb, leb-true}
 use Rattle.definitions.specs.Inputs.{Job, Place, nowhere, placeAt}
 use Rattle.definitions.specs.Step.{Step, go, stop, unless, andThen}
 use Rattle.definitions.specs.Ranges.{regionOk, within, usedTables, offsetOk, listOk}
 use Rattle.definitions.specs.Pass1.{State}
 use Rattle.definitions.specs.Build.{geometry, height, root, start, refused, result, passes, build}
-use Rattle.definitions.specs.Conditions.{BadInput, badRegion, badImage, badOutput, badLevels, badRoot, badOffset, badList, badRanges, freeRoot}
+use Rattle.definitions.specs.Conditions.{BadInput, badRegion, badImage, badOutput, badRoot, badOffset, badList, badRanges, freeRoot}
 use Rattle.definitions.proofs.Splits.{impossible}
 use Rattle.definitions.proofs.Answers.{and-l, and-r}
 use Rattle.definitions.proofs.Checks.{startState, eachOk}
@@ -30,7 +30,6 @@ abbrev checks : Job → List Check
 checks j =
     check (not (regionOk (geometry j .limit) (j .region))) 1 nowhere
     ∷ check (not (eqb (j .imageLength) (j .region .used)) || ltb (j .outputLength) (j .region .size)) 4 nowhere
-    ∷ check (eqb (j .cr4 / 0x1000 % 2) 1) 5 nowhere
     ∷ check (not (within (j .region) (j .cr3))) 6 nowhere
     ∷ check (not (offsetOk (geometry j .limit) (j .region) (j .tableOffset))) 7 nowhere
     ∷ check (not (listOk (j .words))) 8 nowhere
@@ -73,12 +72,11 @@ start-stops : (j : Job) (n : ℕ) (q : Place) → BadInput j n q → Stops n (st
 start-stops j n q (badRegion e) = at j n 0 (rw e refl) refl
 start-stops j n q (badImage e) = at j n 1 (rw (ne-eqb (j .imageLength) (j .region .used) e) refl) refl
 start-stops j n q (badOutput e) = at j n 1 (either (not (eqb (j .imageLength) (j .region .used))) _ (lt-ltb _ _ e)) refl
-start-stops j n q (badLevels e) = at j n 2 (eq-eqb _ _ e) refl
-start-stops j n q (badRoot e) = at j n 3 (rw e refl) refl
-start-stops j n q (badOffset e) = at j n 4 (rw e refl) refl
-start-stops j n q (badList e) = at j n 5 (rw e refl) refl
-start-stops j n q (badRanges e) = at j n 6 (rw e refl) refl
-start-stops j n q (freeRoot e) = at j n 7 (le-leb _ _ e) refl
+start-stops j n q (badRoot e) = at j n 2 (rw e refl) refl
+start-stops j n q (badOffset e) = at j n 3 (rw e refl) refl
+start-stops j n q (badList e) = at j n 4 (rw e refl) refl
+start-stops j n q (badRanges e) = at j n 5 (rw e refl) refl
+start-stops j n q (freeRoot e) = at j n 6 (le-leb _ _ e) refl
 
 pub lowest-given : (j : Job) (n : ℕ) (q : Place) → BadInput j n q → build j .report .number ≤ n
 unfolding build result andThen refused

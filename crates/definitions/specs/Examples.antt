@@ -2,10 +2,10 @@
 -- Assumes nothing.
 use mathlib.Core.Bool.{Bool, true, false, _&&_}
 use mathlib.Core.List.{List, [], _∷_}
-use Prim.Native.Nat.{ℕ, zero, suc, _-_, _*_, _/_, _^_}
+use Prim.Native.Nat.{ℕ, zero, suc, _+_, _-_, _*_, _/_, _^_}
 use lib.Dec.{eqb}
 use Rattle.definitions.specs.Words.{Mem, blank, put, slot}
-use Rattle.definitions.specs.Geometry.{four, indices}
+use Rattle.definitions.specs.Geometry.{indices}
 use Rattle.definitions.specs.Inputs.{Job, Place, nowhere, Report, Built}
 use Rattle.definitions.specs.Build.{refused, build}
 
@@ -46,7 +46,7 @@ pub data Example : Type 0 where
 unfoldable pub holds : Example → Bool
 unfolding sameBuilt sameList
 holds (builds j c) = sameBuilt (j .region .size / 8) (build j) c
-holds (hasIndices a xs) = sameList (indices four a) xs
+holds (hasIndices a xs) = sameList (indices a) xs
 
 unfoldable pub allHold : List Example → Bool
 allHold [] = true
@@ -55,19 +55,23 @@ allHold (x ∷ xs) = holds x && allHold xs
 unfoldable pub base : Mem
 base = put (put (put blank (slot 0 0) 0x101023) (slot 1 0) 0x102023) (slot 2 1) 0x2000E3
 
--- the base, with the words of the ranges, a size, and an image
-unfoldable pub jobWith : List ℕ → ℕ → Mem → Job
-jobWith words size m = record {
-  region = record { gpa = 0x100000; size = size; used = 0x3000 };
-  cr3 = 0x100000;
-  cr4 = 0;
+-- the base's region and table offset, with a used length, registers, the words of the ranges, a size, and an image
+unfoldable pub jobBy : ℕ → ℕ → ℕ → List ℕ → ℕ → Mem → Job
+jobBy used cr3 cr4 words size m = record {
+  region = record { gpa = 0x100000; size = size; used = used };
+  cr3 = cr3;
+  cr4 = cr4;
   tableOffset = 0;
   words = words;
-  imageLength = 0x3000;
+  imageLength = used;
   image = m;
   outputLength = size;
   scratchLength = 6;
 }
+
+unfoldable pub jobWith : List ℕ → ℕ → Mem → Job
+unfolding jobBy
+jobWith words size m = jobBy 0x3000 0x100000 0 words size m
 
 -- with the last address and the offset of one range
 unfoldable pub jobTo : ℕ → ℕ → ℕ → Mem → Job
@@ -78,12 +82,16 @@ unfoldable pub job : ℕ → ℕ → Mem → Job
 unfolding jobTo
 job size o m = jobTo 0x3FFFFF size o m
 
--- accepted: used, moved, merged, and the output
-unfoldable pub yields : ℕ → ℕ → ℕ → Mem → Built
-yields used moved merged m = record {
-  report = record { number = 0; used = used; moved = moved; merged = merged; reached = 3; place = nowhere };
+-- accepted: tables reached, used, moved, merged, and the output
+unfoldable pub yieldsOf : ℕ → ℕ → ℕ → ℕ → Mem → Built
+yieldsOf reached used moved merged m = record {
+  report = record { number = 0; used = used; moved = moved; merged = merged; reached = reached; place = nowhere };
   output = m;
 }
+
+unfoldable pub yields : ℕ → ℕ → ℕ → Mem → Built
+unfolding yieldsOf
+yields used moved merged m = yieldsOf 3 used moved merged m
 
 -- refused: number, address, level, offset
 unfoldable pub refuses : ℕ → ℕ → ℕ → ℕ → Built
@@ -96,10 +104,33 @@ crossing =
     jobWith (0x200000 ∷ 0x3FFFFF ∷ 0x600000 ∷ 0x400000 ∷ 0x5FFFFF ∷ 0x200000 ∷ []) 0x8000
     (put (put (put base (slot 2 2) 0x4000E3) (slot 2 3) 0x6000E1) (slot 2 4) 0x8000E1)
 
--- §12.1 to §12.11 and §12.15; then the order of refusals, §12.16 to §12.19; and §12.20, since nothing may be put in while pass 1
--- still runs (§13.2)
+-- the base under a level-4 root, table 3
+unfoldable pub base₅ : Mem
+unfolding base
+base₅ = put base (slot 3 0) 0x100023
+
+unfoldable pub jobTo₅ : ℕ → ℕ → ℕ → Mem → Job
+unfolding jobBy
+jobTo₅ used size o m = jobBy used 0x103000 0x1000 (0x200000 ∷ 0x3FFFFF ∷ o ∷ []) size m
+
+unfoldable pub job₅ : ℕ → ℕ → Mem → Job
+unfolding jobTo₅
+job₅ size o m = jobTo₅ 0x4000 size o m
+
+-- accepted, the leaf moved: used, and the output but for the place that the leaf leaves
+unfoldable pub yields₅ : ℕ → Mem → Built
+unfolding yieldsOf
+yields₅ used m = yieldsOf 4 used 1 0 (put m (slot 2 1) 0)
+
+-- §12.30: a 1 GiB leaf at 2^52
+unfoldable pub farLeaf : Mem
+unfolding base₅
+farLeaf = put (put (put base₅ (slot 3 16) 0x104023) (slot 4 0) 0x105023) (slot 5 0) 0xE3
+
+-- §12.1 to §12.11 and §12.15; then the order of refusals, §12.16 to §12.19; §12.20, since nothing may be put in while pass 1
+-- still runs (§13.2); and five levels, §12.21 to §12.30
 unfoldable pub examples : List Example
-unfolding crossing
+unfolding crossing farLeaf base₅
 examples =
     builds (job 0x8000 0x1FF000 base) (yields 0x3000 0 0 base)
     ∷ builds (job 0x8000 0x200000 base) (yields 0x3000 1 0 (put (put base (slot 2 1) 0) (slot 2 2) 0x4000E3))
@@ -114,11 +145,24 @@ examples =
     ∷ builds (job 0x8000 0x200000 (put base (slot 2 2) 0x4000E1)) (refuses 18 0x400000 1 0)
     ∷ builds (job 0x8000 0x200000 (put base (slot 0 511) 0x100023)) (refuses 10 (511 * 2 ^ 39) 3 0)
     ∷ builds (job 0x8000 0x200000 (put base (slot 2 0) 0x103023)) (refuses 9 0 1 0)
-    ∷ hasIndices 0x603000 (3 ∷ 3 ∷ 0 ∷ 0 ∷ [])
+    ∷ hasIndices 0x603000 (3 ∷ 3 ∷ 0 ∷ 0 ∷ 0 ∷ [])
     ∷ builds (job 0x8000 0x201000 (put base (slot 0 511) 0x100023)) (refuses 12 0x200000 1 0x201000)
     ∷ builds crossing (refuses 18 0x600000 1 0)
     ∷ builds (job 0x3000 0x8000000000 base) (refuses 19 0x8000200000 3 0)
     ∷ builds (job 0x4000 0x8000000000 base) (refuses 19 0x8000200000 2 0)
     ∷ builds (jobTo 0x5FFFFF 0x8000 0x200000 (put base (slot 2 2) 0x4000E3))
     (yields 0x3000 2 0 (put (put (put base (slot 2 1) 0) (slot 2 2) 0x4000E3) (slot 2 3) 0x6000E3))
+    ∷ builds (job₅ 0x8000 0x200000 base₅) (yields₅ 0x4000 (put base₅ (slot 2 2) 0x4000E3))
+    ∷ builds (job₅ 0x8000 (2 ^ 48) base₅)
+    (yields₅ 0x7000 (put (put (put (put base₅ (slot 3 1) 0x104023) (slot 4 0) 0x105023) (slot 5 0) 0x106023) (slot 6 1) (2 ^ 48 + 0x2000E3)))
+    ∷ builds (job₅ 0x4000 (2 ^ 48) base₅) (refuses 19 (2 ^ 48 + 0x200000) 4 0)
+    ∷ builds (jobBy 0x4000 0x104000 0x1000 [] 0x8000 base₅) (refuses 9 0 5 0)
+    ∷ builds (job₅ 0x8000 (2 ^ 52 - 0x400000) base₅)
+    (yields₅ 0x7000 (put (put (put (put base₅ (slot 3 15) 0x104023) (slot 4 511) 0x105023) (slot 5 511) 0x106023) (slot 6 511) (2 ^ 52 - 0x200000 + 0xE3)))
+    ∷ builds (job₅ 0x8000 (2 ^ 52 - 0x200000) base₅) (refuses 13 0x200000 1 (2 ^ 52 - 0x200000))
+    ∷ builds (job₅ 0x8000 0x200000 (put (put base₅ (slot 3 0) 0x1000A3) (slot 0 0) 0x1010A3))
+    (yields₅ 0x4000 (put (put (put base₅ (slot 3 0) 0x1000A3) (slot 0 0) 0x1010A3) (slot 2 2) 0x4000E3))
+    ∷ builds (job₅ 0x8000 (2 ^ 48) (put base₅ (slot 3 1) 0x200023)) (refuses 17 (2 ^ 48 + 0x200000) 4 0)
+    ∷ builds (job₅ 0x8000 0x200000 (put base₅ (slot 3 511) 0x107023)) (refuses 9 (511 * 2 ^ 48) 4 0)
+    ∷ builds (jobTo₅ 0x6000 0x8000 0x200000 farLeaf) (yieldsOf 6 0x6000 1 0 (put (put farLeaf (slot 2 1) 0) (slot 2 2) 0x4000E3))
     ∷ []

@@ -11,7 +11,7 @@ use Rattle.definitions.specs.Step.{Step, go, stop, andThen}
 use Rattle.definitions.specs.Pass1.{Plan, State}
 use Rattle.definitions.specs.Build.{height, secondPass, start, accepted, refused as refusedBuild, result, passes, build}
 use Rattle.definitions.specs.Demand.{Proper}
-use Rattle.definitions.specs.Conditions.{BadInput, badRegion, badImage, badOutput, badLevels, badRoot, badOffset, badList, badRanges, freeRoot, None}
+use Rattle.definitions.specs.Conditions.{BadInput, badRegion, badImage, badOutput, badRoot, badOffset, badList, badRanges, freeRoot, None}
 use Rattle.definitions.specs.Conditions.{BadEntry, inTail, intoMoved, notWhole, tooFar}
 use Rattle.definitions.specs.Conditions.{BadTables}
 use Rattle.definitions.specs.Order.{refused, toRoot, toSame, taken, full, FirstBad, FirstInWay, InOrder}
@@ -84,7 +84,6 @@ input-nine : (j : Job) (n : ℕ) (q : Place) → BadInput j n q → (n < 9) ⊎ 
 input-nine j n q (badRegion e) = inl (omega arith)
 input-nine j n q (badImage e) = inl (omega arith)
 input-nine j n q (badOutput e) = inl (omega arith)
-input-nine j n q (badLevels e) = inl (omega arith)
 input-nine j n q (badRoot e) = inl (omega arith)
 input-nine j n q (badOffset e) = inl (omega arith)
 input-nine j n q (badList e) = inl (omega arith)

@@ -19,7 +19,8 @@ use Rattle.definitions.proofs.Geometry.{span-pos, part-step, part-first, part-b
 use Rattle.definitions.proofs.Acts.{MovesAs}
 use Rattle.definitions.proofs.Conditions.{refuse-iff}
 use Rattle.definitions.proofs.Offset.{deciding-offsets, decide-offset, target-shifted, past-iff}
-use Rattle.definitions.proofs.Checks.{bad-input-number, geometry-sound}
+use Rattle.definitions.proofs.Checks.{bad-input-number}
+use Rattle.definitions.proofs.Cr4.{geometry-sound}
 use Rattle.demands.proofs.Pass1.Ways.{way-part}
 use Rattle.demands.proofs.Both.Sound.{plan-is}
 use Rattle.demands.proofs.Both.Bridge.{moves-as}

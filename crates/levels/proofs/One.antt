@@ -4,7 +4,6 @@ use mathlib.Core.Path.{_≡_, sym, ap, _∙_}
 use mathlib.Core.List.{List}
 use Prim.Native.Nat.{ℕ}
 use native.Mathlib.Omega.{arith}
-use Rattle.definitions.specs.Geometry.{four}
 use Rattle.definitions.specs.Entry.{Answer as Said, mappedSize, levelIndex}
 use Rattle.levels.specs.Answers.{answerOf, Sized, Indexed, IndexedAll}
 use Rattle.levels.specs.declared.Answer.{Answer}
@@ -21,10 +20,10 @@ pub one-answer : (x : Said) (r s : Answer) → answerOf r ≡ x → answerOf s �
 one-answer x r s p q = answer-injective r s (p ∙ sym q)
 
 pub one-mapping-size : (l : ℕ) (r s : Answer) → Sized l r → Sized l s → r ≡ s
-one-mapping-size l = one-answer (mappedSize four l)
+one-mapping-size l = one-answer (mappedSize l)
 
 pub one-index : (a l : ℕ) (r s : Answer) → Indexed a l r → Indexed a l s → r ≡ s
-one-index a l = one-answer (levelIndex four l a)
+one-index a l = one-answer (levelIndex l a)
 
 pub one-indices : (a : ℕ) (r s : List ℕ) → IndexedAll a r → IndexedAll a s → r ≡ s
 one-indices a r s p q = p ∙ sym q

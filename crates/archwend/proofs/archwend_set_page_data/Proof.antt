@@ -1,4 +1,4 @@
--- `archwend_set_page_data` meets its contract: it is `region::set_page_data` with four levels. No loop.
+-- `archwend_set_page_data` meets its contract: it is `region::set_page_data` with the geometry of cr4. No loop.
 -- Assumes nothing.
 use Rattle.definitions.specs.Load.{Loaded, load}
 use Rattle.definitions.specs.declared.paging.Geometry.{Geometry}
@@ -11,10 +11,10 @@ use Rattle.archwend.proofs.archwend_set_page_data.Tie as tie
 returns : tie.Need-returns
 returns c =
     let load-call = c .before .before in
-    let four = load-call .before in
-    let a = four .before .before .before .before .args in
+    let chosen = load-call .before .before in
+    let a = chosen .before .before .before .args in
     let r = regionAt (a .gpa) (a .size) (a .used) in
-    let e = load-call .set-page-data .ensures ∙ ap (λ (g : Geometry). load g r (a .image .now) (a .page-gpa) (a .data .now)) (four .four .ensures) in
+    let e = load-call .set-page-data .ensures ∙ ap (λ (g : Geometry). load g r (a .image .now) (a .page-gpa) (a .data .now)) (chosen .geometry-of .ensures) in
     record { number = ap (λ (l : Loaded). l .number) e; loaded = ap (λ (l : Loaded). l .image) e }
 
 pub archwend-set-page-data-spec : {M : Type 1} → statement M

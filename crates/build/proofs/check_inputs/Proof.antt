@@ -1,9 +1,10 @@
--- `build::check_inputs` meets its contract: eight checks in a row, in `start`'s order, each of which refuses where it fails. No loop.
--- Every place is seen from the first call, `region::valid`; `past₄` gathers what the first four checks gave, for `start`'s laws.
+-- `build::check_inputs` meets its contract: seven checks in a row, in `start`'s order, each of which refuses where it fails. No loop.
+-- Every place is seen from the first call, `region::valid`; `past₃` gathers what the first three checks gave, for `start`'s laws.
 -- Assumes nothing.
 use Rattle.region.proofs.Laws.{in-table, in-no-table}
 use Rattle.region.specs.Meaning.{indexOf}
-use Rattle.definitions.proofs.Checks.{start-region, start-image, start-output, start-levels, start-root, start-offset, start-ranges, start-free, start-good, eachOk, geometry-sound}
+use Rattle.definitions.proofs.Checks.{start-region, start-image, start-output, start-root, start-offset, start-ranges, start-free, start-good, eachOk}
+use Rattle.definitions.proofs.Cr4.{geometry-sound}
 use Rattle.definitions.proofs.Geometry.{SoundGeometry}
 use Rattle.definitions.specs.Build.{geometryOf, geometry, height, root, jobOf}
 use Rattle.definitions.specs.Geometry.{levels}
@@ -48,20 +49,20 @@ refused e d = e ∙ sym (ap (λ (r : Refusal). stopped r) d)
 abbrev v₂ : tie.Else2 → tie.After-valid
 v₂ c = c .before .before .before
 
-abbrev e₂ : tie.Else4 → tie.Else2
-e₂ c = c .before .before .before .before
+abbrev e₂ : tie.Else3 → tie.Else2
+e₂ c = c .before .before
 
-abbrev v₄ : tie.Else4 → tie.After-valid
-v₄ c = v₂ (e₂ c)
+abbrev v₃ : tie.Else3 → tie.After-valid
+v₃ c = v₂ (e₂ c)
 
-abbrev e₄ : tie.After-found → tie.Else4
-e₄ c = c .before .before .before
+abbrev e₃ : tie.After-found → tie.Else3
+e₃ c = c .before .before .before
 
-abbrev f₅ : tie.Else5 → tie.After-found
-f₅ c = c .before .before .before
+abbrev f₄ : tie.Else4 → tie.After-found
+f₄ c = c .before .before .before
 
-abbrev e₅ : tie.Else6 → tie.Else5
-e₅ c = c .before .before
+abbrev e₄ : tie.Else5 → tie.Else4
+e₄ c = c .before .before
 
 -- ---- what the checks gave
 valid₁ : (c : tie.Else1) (n : ℕ) → let j = J (c .before) n in regionOk (geometry j .limit) (j .region) ≡ true
@@ -70,47 +71,44 @@ valid₁ c n =
     let v = c .before in
     ap (λ (l : ℕ). regionOk l (start-of v .args .r)) (limit-is v) ∙ sym (v .valid .ensures) ∙ not-false _ (c .if1 .left)
 
-record Past₄ (j : I.Job) : Type 0 where
+record Past₃ (j : I.Job) : Type 0 where
   region : regionOk (geometry j .limit) (j .region) ≡ true
   image : j .imageLength ≡ j .region .used
   output : j .region .size ≤ j .outputLength
-  levels : ¬ (j .cr4 / 0x1000 % 2 ≡ 1)
 
-past₄ : (c : tie.Else4) (n : ℕ) → Past₄ (J (v₄ c) n)
+past₃ : (c : tie.Else3) (n : ℕ) → Past₃ (J (v₃ c) n)
 unfolding jobOf
-past₄ c n =
-    let e₃ = c .before .before in
-    record { region = valid₁ (e₂ c .before .before) n; image = e₂ c .if2 .left; output = e₃ .if3 .left; levels = c .if4 .left }
+past₃ c n = record { region = valid₁ (e₂ c .before .before) n; image = e₂ c .if2 .left; output = c .if3 .left }
 
 -- the table that the code found
 abbrev table : tie.After-found → ℕ
 table c = c .found .given .0 .0
 
-found₅ : (c : tie.After-found) (n : ℕ) → let j = J (v₄ (e₄ c)) n in (within (j .region) (j .cr3) ≡ true) × (root j ≡ table c)
+found₄ : (c : tie.After-found) (n : ℕ) → let j = J (v₃ (e₃ c)) n in (within (j .region) (j .cr3) ≡ true) × (root j ≡ table c)
 unfolding jobOf root
-found₅ c n = in-table _ _ _ (sym (c .before .before .calculate-page-table-index .ensures) ∙ ap indexOf (c .found .given .1))
+found₄ c n = in-table _ _ _ (sym (c .before .before .calculate-page-table-index .ensures) ∙ ap indexOf (c .found .given .1))
 
-offset-is : (o : tie.After-offset-valid) (n : ℕ) → let j = J (v₄ (e₄ (o .before .before))) n in
+offset-is : (o : tie.After-offset-valid) (n : ℕ) → let j = J (v₃ (e₃ (o .before .before))) n in
     offsetOk (geometry j .limit) (j .region) (j .tableOffset) ≡ o .offset-valid .result
 unfolding jobOf
 offset-is o n =
-    let v = v₄ (e₄ (o .before .before)) in
+    let v = v₃ (e₃ (o .before .before)) in
     let a = start-of v .args in
     ap (λ (l : ℕ). offsetOk l (a .r) (a .offset)) (limit-is v) ∙ sym (o .offset-valid .ensures)
 
-offset₅ : (c : tie.Else5) (n : ℕ) → let j = J (v₄ (e₄ (f₅ c))) n in offsetOk (geometry j .limit) (j .region) (j .tableOffset) ≡ true
-offset₅ c n = offset-is (c .before) n ∙ not-false _ (c .if5 .left)
+offset₄ : (c : tie.Else4) (n : ℕ) → let j = J (v₃ (e₃ (f₄ c))) n in offsetOk (geometry j .limit) (j .region) (j .tableOffset) ≡ true
+offset₄ c n = offset-is (c .before) n ∙ not-false _ (c .if4 .left)
 
-ranges-is : (l : tie.After-list-valid) (n : ℕ) → let j = J (v₄ (e₄ (f₅ (l .before)))) n in (listOk (j .words) && eachOk j) ≡ l .list-valid .result
+ranges-is : (l : tie.After-list-valid) (n : ℕ) → let j = J (v₃ (e₃ (f₄ (l .before)))) n in (listOk (j .words) && eachOk j) ≡ l .list-valid .result
 unfolding jobOf
 ranges-is l n =
-    let v = v₄ (e₄ (f₅ (l .before))) in
+    let v = v₃ (e₃ (f₄ (l .before))) in
     let a = start-of v .args in
     let ws = a .ranges .now in
     ap (λ (b : ℕ). listOk ws && rangesOk b (a .r) 0 (rangesOf ws)) (limit-is v) ∙ sym (l .list-valid .ensures)
 
-ranges₆ : (c : tie.Else6) (n : ℕ) → let j = J (v₄ (e₄ (f₅ (e₅ c)))) n in (listOk (j .words) && eachOk j) ≡ true
-ranges₆ c n = ranges-is (c .before) n ∙ not-false _ (c .if6 .left)
+ranges₅ : (c : tie.Else5) (n : ℕ) → let j = J (v₃ (e₃ (f₄ (e₄ c)))) n in (listOk (j .words) && eachOk j) ≡ true
+ranges₅ c n = ranges-is (c .before) n ∙ not-false _ (c .if5 .left)
 
 -- ---- the needs
 returns : tie.Need-returns
@@ -135,74 +133,66 @@ returns-3 c n =
 returns-4 : tie.Need-returns-4
 unfolding jobOf
 returns-4 c n =
-    let e₃ = c .before .before .before in
-    let e = e₃ .before .before in
-    let five = c .before .if4 .taken in
-    refused (start-levels (J (v₂ e) n) (valid₁ (e .before .before) n) (e .if2 .left) (e₃ .if3 .left) five) (c .plain4 .ensures)
+    let told = c .before in
+    let asked = told .before .before in
+    let e = asked .before in
+    let p = past₃ e n in
+    let out = in-no-table _ _ (sym (asked .calculate-page-table-index .ensures) ∙ ap indexOf (told .enum-told .given .1)) in
+    refused (start-root (J (v₃ e) n) (p .region) (p .image) (p .output) out) (c .plain4 .ensures)
 
 returns-5 : tie.Need-returns-5
 unfolding jobOf
 returns-5 c n =
-    let told = c .before in
-    let asked = told .before .before in
-    let e = asked .before in
-    let p = past₄ e n in
-    let out = in-no-table _ _ (sym (asked .calculate-page-table-index .ensures) ∙ ap indexOf (told .enum-told .given .1)) in
-    refused (start-root (J (v₄ e) n) (p .region) (p .image) (p .output) (p .levels) out) (c .plain5 .ensures)
+    let o = c .before .before in
+    let f = o .before .before in
+    let p = past₃ (e₃ f) n in
+    let bad = offset-is o n ∙ not-true _ (c .before .if4 .taken) in
+    refused (start-offset (J (v₃ (e₃ f)) n) (p .region) (p .image) (p .output) (found₄ f n .0) bad) (c .plain5 .ensures)
 
 returns-6 : tie.Need-returns-6
 unfolding jobOf
 returns-6 c n =
-    let o = c .before .before in
-    let f = o .before .before in
-    let p = past₄ (e₄ f) n in
-    let bad = offset-is o n ∙ not-true _ (c .before .if5 .taken) in
-    refused (start-offset (J (v₄ (e₄ f)) n) (p .region) (p .image) (p .output) (p .levels) (found₅ f n .0) bad) (c .plain6 .ensures)
-
-returns-7 : tie.Need-returns-7
-unfolding jobOf
-returns-7 c n =
     let l = c .before .before in
     let e = l .before in
-    let p = past₄ (e₄ (f₅ e)) n in
-    let bad = ranges-is l n ∙ not-true _ (c .before .if6 .taken) in
-    let at = found₅ (f₅ e) n .0 in
-    refused (start-ranges (J (v₄ (e₄ (f₅ e))) n) (p .region) (p .image) (p .output) (p .levels) at (offset₅ e n) bad) (c .plain7 .ensures)
+    let p = past₃ (e₃ (f₄ e)) n in
+    let bad = ranges-is l n ∙ not-true _ (c .before .if5 .taken) in
+    let at = found₄ (f₄ e) n .0 in
+    refused (start-ranges (J (v₃ (e₃ (f₄ e))) n) (p .region) (p .image) (p .output) at (offset₄ e n) bad) (c .plain6 .ensures)
 
 add-at : tie.Need-add-at
 add-at c =
-    let e = e₅ (c .before .before .before) in
-    let s = start-of (v₄ (e₄ (f₅ e))) in
+    let e = e₄ (c .before .before .before) in
+    let s = start-of (v₃ (e₃ (f₄ e))) in
     let sound = subst SoundGeometry (sym (s .pre)) (geometry-sound (s .args .cpu .cr4)) in
     omega (arith, sound .top)
+
+returns-7 : tie.Need-returns-7
+unfolding jobOf usedTables
+returns-7 c n =
+    let test = c .before .before in
+    let e = test .before .before in
+    let f = f₄ (e₄ e) in
+    let v = v₃ (e₃ f) in
+    let p = past₃ (e₃ f) n in
+    let at = found₄ f n in
+    let free = start-free (J v n) (p .region) (p .image) (p .output) (at .0) (offset₄ (e₄ e) n) (ranges₅ e n) in
+    free (rw (at .1) (test .if6 .taken)) ∙ ap (λ (l : ℕ). stop 9 (I.placeAt 0 l)) (height-is v n)
+    ∙ sym (ap (λ (r : Refusal). stopped r) (c .at .ensures))
 
 returns-8 : tie.Need-returns-8
 unfolding jobOf usedTables
 returns-8 c n =
-    let test = c .before .before in
-    let e = test .before .before in
-    let f = f₅ (e₅ e) in
-    let v = v₄ (e₄ f) in
-    let p = past₄ (e₄ f) n in
-    let at = found₅ f n in
-    let free = start-free (J v n) (p .region) (p .image) (p .output) (p .levels) (at .0) (offset₅ (e₅ e) n) (ranges₆ e n) in
-    free (rw (at .1) (test .if7 .taken)) ∙ ap (λ (l : ℕ). stop 9 (I.placeAt 0 l)) (height-is v n)
-    ∙ sym (ap (λ (r : Refusal). stopped r) (c .at .ensures))
-
-returns-9 : tie.Need-returns-9
-unfolding jobOf usedTables
-returns-9 c n =
     let e = c .before .before in
-    let f = f₅ (e₅ e) in
-    let v = v₄ (e₄ f) in
-    let p = past₄ (e₄ f) n in
-    let at = found₅ f n in
-    let good = start-good (J v n) (p .region) (p .image) (p .output) (p .levels) (at .0) (offset₅ (e₅ e) n) (ranges₆ e n) in
-    (good (rw (at .1) (c .if7 .left)), sym (at .1))
+    let f = f₄ (e₄ e) in
+    let v = v₃ (e₃ f) in
+    let p = past₃ (e₃ f) n in
+    let at = found₄ f n in
+    let good = start-good (J v n) (p .region) (p .image) (p .output) (at .0) (offset₄ (e₄ e) n) (ranges₅ e n) in
+    (good (rw (at .1) (c .if6 .left)), sym (at .1))
 
 pub check-inputs-spec : {M : Type 1} → statement M
 check-inputs-spec =
     tie.close
-    (tie.spec (search needs) (search needs) returns (search needs) returns-2 (search needs) returns-3 (search needs)
-    returns-4 (search needs) (search needs) (search needs) (search needs) returns-5 (search needs) (search needs)
-    returns-6 (search needs) (search needs) returns-7 add-at (search needs) returns-8 returns-9)
+    (tie.spec (search needs) (search needs) returns (search needs) returns-2 (search needs) returns-3
+    (search needs) (search needs) (search needs) (search needs) returns-4 (search needs) (search needs)
+    returns-5 (search needs) (search needs) returns-6 add-at (search needs) returns-7 returns-8)
