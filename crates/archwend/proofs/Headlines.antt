@@ -1,7 +1,7 @@
 -- What a caller of the exported functions may rely on, all together: of any report, output and scratch that a call of
 -- `archwend_build` leaves by its promise (`Answers`), and of any number and image that `archwend_set_page_data` leaves by its
 -- own (`LoadsPage`). The words are those of definitions/specs: Demand.antt, Conditions.antt, Order.antt and Walk.antt. Builds on
--- demands (Exact, First, Main, Bytes) and on the laws of definitions (Build, LoadEnds).
+-- demands (Exact, First, Main, Bytes) and on the laws of definitions (Cr4, Build, LoadEnds).
 -- `archwend_build` is lent the image and the ranges to read only: its type says so, and there is nothing to prove.
 -- Assumes nothing.
 use mathlib.Core.Path.{_≡_, refl, sym, ap, _∙_}
@@ -10,30 +10,32 @@ use mathlib.Core.Logic.{_⊎_, ⊎-elim, _↔_}
 use Prim.Native.Nat.{ℕ, suc, _+_, _-_, _*_, _%_, _^_, _≤_, _<_}
 use native.Mathlib.Omega.{arith}
 use lib.ListN.{length, getD, replicate, length-replicate}
-use Rattle.definitions.specs.Words.{slot, wordsOf}
+use Rattle.definitions.specs.Words.{slot, wordsOf, bytesOf}
 use Rattle.definitions.specs.Geometry.{rootHeight, span}
 use Rattle.definitions.specs.Entry.{leafFlags, translate}
 use Rattle.definitions.specs.Inputs.{Job, nowhere, Built}
 use Rattle.definitions.specs.Ranges.{kind, movedRegion, tableAt, usedTables}
-use Rattle.definitions.specs.Build.{geometryOf, root, planOf, build, refused, jobOf}
-use Rattle.definitions.specs.Load.{loaded}
+use Rattle.definitions.specs.Build.{geometryOf, root, planOf, build, refused, jobOf, outputBytes}
+use Rattle.definitions.specs.Load.{Loaded, loaded, load}
 use Rattle.definitions.specs.Walk.{End, nothing, wild, inLeaf, reads, walk}
 use Rattle.definitions.specs.Demand.{Proper, Walked, before, after, readsAfter, IsRead, Reached, Moves, MovedBy, Stays, Lands, Clear, entryBefore}
 use Rattle.definitions.specs.Demand.{Grown, LeafCount, MergeCount, TableCount, Written, Became, Rebuilt}
 use Rattle.definitions.specs.Conditions.{BadInput, Condition, None, Given}
 use Rattle.definitions.specs.Order.{InOrder}
+use Rattle.definitions.specs.declared.paging.Geometry.{Geometry}
 use Rattle.definitions.specs.declared.Moved.{Moved}
 use Rattle.definitions.specs.declared.Place.{Place}
 use Rattle.definitions.specs.declared.Region.{Region}
 use Rattle.definitions.specs.declared.Report.{Report}
 use Rattle.definitions.proofs.Words.{Bytes}
+use Rattle.definitions.proofs.Cr4.{bitOf, five-walked, four-walked, by-geometry, one-bit}
 use Rattle.definitions.proofs.Build.{job-proper, output-refused}
 use Rattle.definitions.proofs.LoadEnds.{PutIn, LoadEnds, load-ends, put-length, put-inside, put-elsewhere}
 use Rattle.demands.proofs.Exact.{exact, accepted-iff}
 use Rattle.demands.proofs.First.{in-order}
 use Rattle.demands.proofs.Main.{rebuilt}
 use Rattle.demands.proofs.Bytes.{output-length, words-in, after-in, reads-in, used-whole, used-inside}
-use Rattle.archwend.specs.Exports.{regionAt, Answers, LoadsPage}
+use Rattle.archwend.specs.Exports.{regionAt, reportWords, Answers, LoadsPage}
 
 -- ---- what a call of `archwend_build` is given: numbers and buffers, of bytes below 256 and words below 2^64. Of the region's
 -- numbers, cr4 and the lengths nothing is asked
@@ -110,6 +112,65 @@ walkIn c bytes a = walk (kind (newRegion c)) (heightOf c) (wordsOf bytes) (rootO
 -- which tables it reads there
 abbrev pub readsIn : Call → List ℕ → ℕ → List ℕ
 readsIn c bytes a = reads (kind (newRegion c)) (heightOf c) (wordsOf bytes) (rootOf c) a
+
+-- ---- the levels, by bit 0x1000 of cr4: a walk reads at most so many tables (walk-short), and these addresses are walked
+pub five-levels :
+    (c : Call)
+    → bitOf (c .cr4) ≡ 1
+    → (heightOf c ≡ 5) × ((a : ℕ) → Walked (asked c) a ↔ (a < 2 ^ 57))
+unfolding jobOf
+five-levels c = five-walked (asked c)
+
+pub four-levels :
+    (c : Call)
+    → ¬ (bitOf (c .cr4) ≡ 1)
+    → (heightOf c ≡ 4) × ((a : ℕ) → Walked (asked c) a ↔ (a < 2 ^ 48))
+unfolding jobOf
+four-levels c = four-walked (asked c)
+
+-- the same call with another cr4
+abbrev pub callBy : Call → ℕ → Call
+callBy c cr4 = record {
+  image = c .image;
+  ranges = c .ranges;
+  gpa = c .gpa;
+  size = c .size;
+  used = c .used;
+  cr3 = c .cr3;
+  cr4 = cr4;
+  tableOffset = c .tableOffset;
+  outputLength = c .outputLength;
+  scratchLength = c .scratchLength;
+  image-fits = c .image-fits;
+  ranges-fit = c .ranges-fit;
+  cr3-fits = c .cr3-fits;
+  offset-fits = c .offset-fits;
+}
+
+-- no other bit of cr4 changes what is left
+pub build-by-bit :
+    (c : Call) (cr4 : ℕ) (report report′ output output′ scratch scratch′ : List ℕ)
+    → bitOf (c .cr4) ≡ bitOf cr4
+    → Answers (asked c) report output scratch
+    → Answers (asked (callBy c cr4)) report′ output′ scratch′
+    → (report ≡ report′) × (output ≡ output′) × (scratch ≡ scratch′)
+unfolding jobOf outputBytes
+build-by-bit c cr4 report report′ output output′ scratch scratch′ bit a b =
+    let e : build (asked c) ≡ build (asked (callBy c cr4)) = by-geometry (asked c) cr4 (one-bit (c .cr4) cr4 bit) in (
+      a .reported ∙ ap (λ (x : Built). reportWords (x .report)) e ∙ sym (b .reported),
+      a .built ∙ ap (λ (x : Built). bytesOf (c .outputLength) (x .output)) e ∙ sym (b .built),
+      a .cleared ∙ sym (b .cleared),
+    )
+
+pub load-by-bit :
+    (cr4 cr4′ : ℕ) (r : Region) (image : List ℕ) (gpa : ℕ) (page : List ℕ) (n n′ : ℕ) (after after′ : List ℕ)
+    → bitOf cr4 ≡ bitOf cr4′
+    → LoadsPage cr4 r image gpa page n after
+    → LoadsPage cr4′ r image gpa page n′ after′
+    → (n ≡ n′) × (after ≡ after′)
+load-by-bit cr4 cr4′ r image gpa page n n′ after after′ bit a b =
+    let e = ap (λ (g : Geometry). load g r image gpa page) (one-bit cr4 cr4′ bit) in
+    (a .number ∙ ap (λ (l : Loaded). l .number) e ∙ sym (b .number), a .loaded ∙ ap (λ (l : Loaded). l .image) e ∙ sym (b .loaded))
 
 -- ---- for the proofs
 proper : (c : Call) → Proper (asked c)

@@ -1,17 +1,19 @@
 -- What a build and a load take from cr4: the geometry (by-geometry), which bit 0x1000 chooses. With the bit clear it is that of
--- four levels (four-levels), and so are the build and the load (four-build, four-load).
+-- four levels (four-levels), and so are the build and the load (four-build, four-load). What is walked, in numbers.
 -- Assumes nothing.
-use mathlib.Core.Path.{_≡_, sym, ap, _∙_}
+use mathlib.Core.Path.{_≡_, refl, sym, ap, _∙_}
 use mathlib.Core.Bool.{Bool, true, false, cond}
 use mathlib.Core.List.{List}
-use Prim.Native.Nat.{ℕ, _/_, _%_}
+use mathlib.Core.Logic.{_↔_}
+use Prim.Native.Nat.{ℕ, _/_, _%_, _^_, _<_}
 use native.Mathlib.Omega.{arith}
 use lib.Dec.{eqb}
 use borrow.Author.Tests.{eq-eqb, ne-eqb}
-use Rattle.definitions.specs.Geometry.{Geometry, four, five}
+use Rattle.definitions.specs.Geometry.{Geometry, four, five, span}
 use Rattle.definitions.specs.Inputs.{Region, Job}
 use Rattle.definitions.specs.Load.{load}
-use Rattle.definitions.specs.Build.{geometryOf, geometry, planOf, start, firstPass, secondPass, root, passes, build}
+use Rattle.definitions.specs.Build.{geometryOf, geometry, height, planOf, start, firstPass, secondPass, root, passes, build}
+use Rattle.definitions.specs.Demand.{Walked}
 use Rattle.definitions.proofs.Geometry.{SoundGeometry, four-sound, five-sound}
 
 -- the passes can go by the geometry of every cr4
@@ -39,6 +41,15 @@ four-levels cr4 h = rw (ne-eqb _ _ h)
 pub one-bit : (c c′ : ℕ) → bitOf c ≡ bitOf c′ → geometryOf c ≡ geometryOf c′
 unfolding geometryOf
 one-bit c c′ e = ap (λ (b : ℕ). cond (eqb b 1) five four) e
+
+-- how many levels there are, and which addresses are walked
+pub five-walked : (j : Job) → bitOf (j .cr4) ≡ 1 → (height j ≡ 5) × ((a : ℕ) → Walked j a ↔ (a < 2 ^ 57))
+unfolding span
+five-walked j h = rw (five-levels (j .cr4) h) (refl, λ a. (λ w. w, λ w. w))
+
+pub four-walked : (j : Job) → ¬ (bitOf (j .cr4) ≡ 1) → (height j ≡ 4) × ((a : ℕ) → Walked j a ↔ (a < 2 ^ 48))
+unfolding span
+four-walked j h = rw (four-levels (j .cr4) h) (refl, λ a. (λ w. w, λ w. w))
 
 -- the same job with another cr4
 abbrev pub withCr4 : Job → ℕ → Job
