@@ -109,13 +109,13 @@ unfoldable pub base₅ : Mem
 unfolding base
 base₅ = put base (slot 3 0) 0x100023
 
-unfoldable pub jobTo₅ : ℕ → ℕ → ℕ → Mem → Job
+unfoldable pub jobTo₅ : ℕ → ℕ → ℕ → ℕ → Mem → Job
 unfolding jobBy
-jobTo₅ used size o m = jobBy used 0x103000 0x1000 (0x200000 ∷ 0x3FFFFF ∷ o ∷ []) size m
+jobTo₅ used cr3 size o m = jobBy used cr3 0x1000 (0x200000 ∷ 0x3FFFFF ∷ o ∷ []) size m
 
 unfoldable pub job₅ : ℕ → ℕ → Mem → Job
 unfolding jobTo₅
-job₅ size o m = jobTo₅ 0x4000 size o m
+job₅ size o m = jobTo₅ 0x4000 0x103000 size o m
 
 -- accepted, the leaf moved: used, and the output but for the place that the leaf leaves
 unfoldable pub yields₅ : ℕ → Mem → Built
@@ -156,7 +156,7 @@ examples =
     ∷ builds (job₅ 0x8000 (2 ^ 48) base₅)
     (yields₅ 0x7000 (put (put (put (put base₅ (slot 3 1) 0x104023) (slot 4 0) 0x105023) (slot 5 0) 0x106023) (slot 6 1) (2 ^ 48 + 0x2000E3)))
     ∷ builds (job₅ 0x4000 (2 ^ 48) base₅) (refuses 19 (2 ^ 48 + 0x200000) 4 0)
-    ∷ builds (jobBy 0x4000 0x104000 0x1000 [] 0x8000 base₅) (refuses 9 0 5 0)
+    ∷ builds (jobTo₅ 0x4000 0x104000 0x8000 0x200000 base₅) (refuses 9 0 5 0)
     ∷ builds (job₅ 0x8000 (2 ^ 52 - 0x400000) base₅)
     (yields₅ 0x7000 (put (put (put (put base₅ (slot 3 15) 0x104023) (slot 4 511) 0x105023) (slot 5 511) 0x106023) (slot 6 511) (2 ^ 52 - 0x200000 + 0xE3)))
     ∷ builds (job₅ 0x8000 (2 ^ 52 - 0x200000) base₅) (refuses 13 0x200000 1 (2 ^ 52 - 0x200000))
@@ -164,5 +164,5 @@ examples =
     (yields₅ 0x4000 (put (put (put base₅ (slot 3 0) 0x1000A3) (slot 0 0) 0x1010A3) (slot 2 2) 0x4000E3))
     ∷ builds (job₅ 0x8000 (2 ^ 48) (put base₅ (slot 3 1) 0x200023)) (refuses 17 (2 ^ 48 + 0x200000) 4 0)
     ∷ builds (job₅ 0x8000 0x200000 (put base₅ (slot 3 511) 0x107023)) (refuses 9 (511 * 2 ^ 48) 4 0)
-    ∷ builds (jobTo₅ 0x6000 0x8000 0x200000 farLeaf) (yieldsOf 6 0x6000 1 0 (put (put farLeaf (slot 2 1) 0) (slot 2 2) 0x4000E3))
+    ∷ builds (jobTo₅ 0x6000 0x103000 0x8000 0x200000 farLeaf) (yieldsOf 6 0x6000 1 0 (put (put farLeaf (slot 2 1) 0) (slot 2 2) 0x4000E3))
     ∷ []

@@ -1,5 +1,5 @@
 // The specification's examples through the build, on bytes. One line each: the offset of the one range, what differs from
-// the base, the report, and each entry of the output that differs from the image.
+// the base, the report, and each entry of the output that differs from the image. After the indices the base under a level-4 root.
 use build::CpuPagingState;
 use definitions::Region;
 use definitions::Report;
@@ -9,12 +9,18 @@ const GPA: u64 = 0x10_0000;
 
 const USED: usize = 0x3000;
 
+const USED_5: usize = 0x4000;
+
 const MOST: usize = 0x8000;
 
-// The first words of the base's second and third table.
+// The first words of the base's second and third table, and of the level-4 root.
 const TABLE_1: usize = 512;
 
 const TABLE_2: usize = 1024;
+
+const TABLE_3: usize = 1536;
+
+const ROOT_5: u64 = 0x10_3000;
 
 // The word of the base's one leaf.
 const MAPPED: usize = TABLE_2 + 1;
@@ -93,25 +99,34 @@ fn left(number: u64, image: &[u8], out: &[u8], scratch: &[u64]) {
     text(b"\n");
 }
 
-// Runs the base with an offset of its one range and a change. The buffers are lent full of other bytes.
-fn run(offset: u64, c: Variant) {
-    let mut image = [0u8; USED];
+// The tables of the base.
+fn put_base(image: &mut [u8]) {
+    tables::put(image, 0, 0x10_1023);
+    tables::put(image, TABLE_1, 0x10_2023);
+    tables::put(image, MAPPED, 0x20_00e3);
+}
+
+// Builds with an offset of the one range. The buffers are lent full of other bytes.
+fn build(image: &[u8], offset: u64, size: u64, cpu: CpuPagingState) {
     let mut out = [0xa5u8; MOST];
     let mut scratch = [7u64; 4];
     let ranges = [0x20_0000u64, 0x3f_ffff, offset];
-    tables::put(&mut image, 0, 0x10_1023);
-    tables::put(&mut image, TABLE_1, 0x10_2023);
-    tables::put(&mut image, MAPPED, 0x20_00e3);
-    tables::put(&mut image, c.slot, c.word);
     let r = Region {
         gpa: GPA,
-        size: c.size,
-        used: USED as u64,
+        size: size,
+        used: image.len() as u64,
     };
-    let cpu = CpuPagingState { cr3: GPA, cr4: 0 };
-    let report = build::build(&image, &mut out, &mut scratch, &ranges, r, cpu, 0);
+    let report = build::build(image, &mut out, &mut scratch, &ranges, r, cpu, 0);
     print(report);
-    left(report.number, &image, &out, &scratch);
+    left(report.number, image, &out, &scratch);
+}
+
+// Runs the base with an offset and a change.
+fn run(offset: u64, c: Variant) {
+    let mut image = [0u8; USED];
+    put_base(&mut image);
+    tables::put(&mut image, c.slot, c.word);
+    build(&image, offset, c.size, CpuPagingState { cr3: GPA, cr4: 0 });
 }
 
 // The base as it is, with an offset.
@@ -142,11 +157,126 @@ fn with_entry(label: &[u8], slot: usize, word: u64) {
 
 fn indices() {
     let i = levels::indices(0x60_3000);
-    number(b"address 603000: indices ", i[3]);
+    number(b"address 603000: indices ", i[4]);
+    number(b" ", i[3]);
     number(b" ", i[2]);
     number(b" ", i[1]);
     number(b" ", i[0]);
     text(b"\n");
+}
+
+// The registers of a guest with five levels.
+fn five(cr3: u64) -> CpuPagingState {
+    CpuPagingState {
+        cr3: cr3,
+        cr4: 0x1000,
+    }
+}
+
+// The base under a level-4 root.
+fn put_base_5(image: &mut [u8]) {
+    put_base(image);
+    tables::put(image, TABLE_3, 0x10_0023);
+}
+
+// Runs the base under a level-4 root with an offset and a change.
+fn run_5(label: &[u8], offset: u64, c: Variant) {
+    text(label);
+    let mut image = [0u8; USED_5];
+    put_base_5(&mut image);
+    tables::put(&mut image, c.slot, c.word);
+    build(&image, offset, c.size, five(ROOT_5));
+}
+
+// As it is, with an offset.
+fn plain_5(label: &[u8], offset: u64, size: u64) {
+    run_5(
+        label,
+        offset,
+        Variant {
+            size: size,
+            slot: MAPPED,
+            word: 0x20_00e3,
+        },
+    );
+}
+
+// With one entry more in the root.
+fn with_entry_5(label: &[u8], offset: u64, slot: usize, word: u64) {
+    run_5(
+        label,
+        offset,
+        Variant {
+            size: 0x8000,
+            slot: slot,
+            word: word,
+        },
+    );
+}
+
+fn root_in_tail() {
+    text(b"five levels, offset 200000, cr3 104000:");
+    let mut image = [0u8; USED_5];
+    put_base_5(&mut image);
+    build(&image, 0x20_0000, 0x8000, five(0x10_4000));
+}
+
+fn bit_seven() {
+    text(b"five levels, offset 200000, 3.0 = 1000a3, 0.0 = 1010a3:");
+    let mut image = [0u8; USED_5];
+    put_base_5(&mut image);
+    tables::put(&mut image, TABLE_3, 0x10_00a3);
+    tables::put(&mut image, 0, 0x10_10a3);
+    build(&image, 0x20_0000, 0x8000, five(ROOT_5));
+}
+
+fn far_leaf() {
+    text(b"five levels, offset 200000, used 6000, 3.16 = 104023, 4.0 = 105023, 5.0 = e3:");
+    let mut image = [0u8; 0x6000];
+    put_base_5(&mut image);
+    tables::put(&mut image, TABLE_3 + 16, 0x10_4023);
+    tables::put(&mut image, TABLE_3 + 512, 0x10_5023);
+    tables::put(&mut image, TABLE_3 + 1024, 0xe3);
+    build(&image, 0x20_0000, 0x8000, five(ROOT_5));
+}
+
+fn five_levels() {
+    plain_5(b"five levels, offset 200000:", 0x20_0000, 0x8000);
+    plain_5(
+        b"five levels, offset 1000000000000:",
+        0x1_0000_0000_0000,
+        0x8000,
+    );
+    plain_5(
+        b"five levels, offset 1000000000000, size 4000:",
+        0x1_0000_0000_0000,
+        0x4000,
+    );
+    root_in_tail();
+    plain_5(
+        b"five levels, offset fffffffc00000:",
+        0xf_ffff_ffc0_0000,
+        0x8000,
+    );
+    plain_5(
+        b"five levels, offset fffffffe00000:",
+        0xf_ffff_ffe0_0000,
+        0x8000,
+    );
+    bit_seven();
+    with_entry_5(
+        b"five levels, offset 1000000000000, 3.1 = 200023:",
+        0x1_0000_0000_0000,
+        TABLE_3 + 1,
+        0x20_0023,
+    );
+    with_entry_5(
+        b"five levels, offset 200000, 3.511 = 107023:",
+        0x20_0000,
+        TABLE_3 + 511,
+        0x10_7023,
+    );
+    far_leaf();
 }
 
 fn main() {
@@ -173,4 +303,5 @@ fn main() {
     plain(b"offset ffffffc00000:", 0xffff_ffc0_0000);
     plain(b"offset ffffffe00000:", 0xffff_ffe0_0000);
     indices();
+    five_levels();
 }
