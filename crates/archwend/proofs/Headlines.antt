@@ -28,7 +28,7 @@ use Rattle.definitions.specs.declared.Place.{Place}
 use Rattle.definitions.specs.declared.Region.{Region}
 use Rattle.definitions.specs.declared.Report.{Report}
 use Rattle.definitions.proofs.Words.{Bytes}
-use Rattle.definitions.proofs.Cr4.{bitOf, five-walked, four-walked, by-geometry, one-bit}
+use Rattle.definitions.proofs.Cr4.{bitOf, withCr4, five-walked, four-walked, by-geometry, one-bit}
 use Rattle.definitions.proofs.Build.{job-proper, output-refused}
 use Rattle.definitions.proofs.LoadEnds.{PutIn, LoadEnds, load-ends, put-length, put-inside, put-elsewhere}
 use Rattle.demands.proofs.Exact.{exact, accepted-iff}
@@ -128,37 +128,18 @@ pub four-levels :
 unfolding jobOf
 four-levels c = four-walked (asked c)
 
--- the same call with another cr4
-abbrev pub callBy : Call → ℕ → Call
-callBy c cr4 = record {
-  image = c .image;
-  ranges = c .ranges;
-  gpa = c .gpa;
-  size = c .size;
-  used = c .used;
-  cr3 = c .cr3;
-  cr4 = cr4;
-  tableOffset = c .tableOffset;
-  outputLength = c .outputLength;
-  scratchLength = c .scratchLength;
-  image-fits = c .image-fits;
-  ranges-fit = c .ranges-fit;
-  cr3-fits = c .cr3-fits;
-  offset-fits = c .offset-fits;
-}
-
--- no other bit of cr4 changes what is left
+-- no other bit of cr4 changes what is left: of a job, and of the same job with another cr4
 pub build-by-bit :
-    (c : Call) (cr4 : ℕ) (report report′ output output′ scratch scratch′ : List ℕ)
-    → bitOf (c .cr4) ≡ bitOf cr4
-    → Answers (asked c) report output scratch
-    → Answers (asked (callBy c cr4)) report′ output′ scratch′
+    (j : Job) (cr4 : ℕ) (report report′ output output′ scratch scratch′ : List ℕ)
+    → bitOf (j .cr4) ≡ bitOf cr4
+    → Answers j report output scratch
+    → Answers (withCr4 j cr4) report′ output′ scratch′
     → (report ≡ report′) × (output ≡ output′) × (scratch ≡ scratch′)
-unfolding jobOf outputBytes
-build-by-bit c cr4 report report′ output output′ scratch scratch′ bit a b =
-    let e : build (asked c) ≡ build (asked (callBy c cr4)) = by-geometry (asked c) cr4 (one-bit (c .cr4) cr4 bit) in (
+unfolding outputBytes
+build-by-bit j cr4 report report′ output output′ scratch scratch′ bit a b =
+    let e = by-geometry j cr4 (one-bit (j .cr4) cr4 bit) in (
       a .reported ∙ ap (λ (x : Built). reportWords (x .report)) e ∙ sym (b .reported),
-      a .built ∙ ap (λ (x : Built). bytesOf (c .outputLength) (x .output)) e ∙ sym (b .built),
+      a .built ∙ ap (λ (x : Built). bytesOf (j .outputLength) (x .output)) e ∙ sym (b .built),
       a .cleared ∙ sym (b .cleared),
     )
 

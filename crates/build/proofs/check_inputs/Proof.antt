@@ -7,14 +7,13 @@ use Rattle.definitions.proofs.Checks.{start-region, start-image, start-output, 
 use Rattle.definitions.proofs.Cr4.{geometry-sound}
 use Rattle.definitions.proofs.Geometry.{SoundGeometry}
 use Rattle.definitions.specs.Build.{geometryOf, geometry, height, root, jobOf}
-use Rattle.definitions.specs.Geometry.{levels}
 use Rattle.definitions.specs.Inputs as I
 use Rattle.definitions.specs.Pass1.{State}
 use Rattle.definitions.specs.Ranges.{regionOk, within, usedTables, offsetOk, listOk, rangesOk, rangesOf}
 use Rattle.definitions.specs.Step.{Step, stop, stopped}
 use Rattle.definitions.specs.declared.Refusal.{Refusal}
 use Rattle.definitions.specs.declared.paging.Geometry.{Geometry}
-use Prim.Native.Nat.{ℕ, _+_, _/_, _%_, _≤_}
+use Prim.Native.Nat.{ℕ, _+_, _≤_}
 use borrow.Author.Tests.{not-true, not-false}
 use mathlib.Core.Bool.{true, _&&_}
 use mathlib.Core.Path.{_≡_, sym, ap, subst, _∙_}
