@@ -13,29 +13,32 @@
 extern "C" {
 #endif
 
-/* Refusals; ARCHWEND_OK is an answer without one. */
+/* Refusals; ARCHWEND_OK is an answer without one. The bound is 2^48; with five levels (cr4 bit 0x1000) it is 2^52. */
 enum archwend_number {
     ARCHWEND_OK = 0,
-    ARCHWEND_REGION = 1,            /* the region is not whole pages, is empty, has more than 512 tables, ends past 2^48, or uses more than its size */
+    ARCHWEND_REGION = 1,            /* the region is not whole pages, is empty, has more than 512 tables, ends past the
+                                       bound, or uses more than its size */
     ARCHWEND_PAGE_LENGTH = 2,       /* the page data is not 4096 bytes long */
     ARCHWEND_PAGE_GPA = 3,          /* the page's address is outside the region, or not a multiple of 4096 */
     ARCHWEND_LENGTHS = 4,           /* the image is not as long as the used part, or the output is shorter than the region */
-    ARCHWEND_FIVE_LEVELS = 5,       /* cr4 asks for five levels (bit 0x1000) */
+    /* 5 is out of use. */
     ARCHWEND_CR3 = 6,               /* cr3 is not in the region */
-    ARCHWEND_TABLE_OFFSET = 7,      /* the table offset is not a multiple of 4096, or moves the region out of 0 to 2^48 */
-    ARCHWEND_RANGES = 8,            /* the ranges are more than 1024, not words in threes or not ascending, or one is empty, past 2^48 or over the region */
+    ARCHWEND_TABLE_OFFSET = 7,      /* the table offset is not a multiple of 4096, or moves the region out of 0 to the bound */
+    ARCHWEND_RANGES = 8,            /* the ranges are more than 1024, not words in threes or not ascending, or one is empty,
+                                       past the bound or over the region */
     ARCHWEND_FREE_TAIL = 9,         /* a table, or the page of a load, lies in the free tail of the region */
     ARCHWEND_SHARED_TABLE = 10,     /* a table is reached twice */
     ARCHWEND_INTO_MOVED = 11,       /* an entry points outside the old region but into the moved one */
     ARCHWEND_UNALIGNED_OFFSET = 12, /* an offset is not a multiple of the size that the entry maps */
-    ARCHWEND_OUT_OF_BOUNDS = 13,    /* a leaf would move out of 0 to 2^48 */
+    ARCHWEND_OUT_OF_BOUNDS = 13,    /* a leaf would move out of 0 to the bound */
     ARCHWEND_SAME_ADDRESS = 14,     /* two leaves would move to one address */
     ARCHWEND_SCRATCH_FULL = 15,     /* the scratch has no room for another moved leaf */
     ARCHWEND_LARGE_IN_THE_WAY = 16, /* a large leaf stands in the way of a moved leaf */
     ARCHWEND_WAY_OUTSIDE = 17,      /* the way to a moved leaf leaves the moved region */
     ARCHWEND_OCCUPIED = 18,         /* a different entry stands where a moved leaf goes */
     ARCHWEND_NO_FREE_TABLE = 19,    /* the region has no free table left */
-    ARCHWEND_ENTRY = 20             /* the address has a bit that the entry can't hold, the level is above 3, or the kind of entry is unknown */
+    ARCHWEND_ENTRY = 20             /* the address has a bit that the entry can't hold, the level is above 4, or the kind
+                                       of entry is unknown */
 };
 
 /* The words of a build's report. After a refusal the counts are 0; after acceptance the place is. */
@@ -46,7 +49,7 @@ enum archwend_report {
     ARCHWEND_MERGED = 3,        /* leaves that came to stand on an identical one */
     ARCHWEND_REACHED = 4,       /* tables reached, the root included */
     ARCHWEND_PLACE_ADDRESS = 5, /* where it was refused: an address, */
-    ARCHWEND_PLACE_LEVEL = 6,   /* a level, */
+    ARCHWEND_PLACE_LEVEL = 6,   /* a level (of a root in the free tail 4, or 5 with five levels), */
     ARCHWEND_PLACE_OFFSET = 7   /* and for 12 and 13 the offset */
 };
 
@@ -64,7 +67,7 @@ void archwend_build(
     uint64_t size,          /* its bytes, at most 2 MiB */
     uint64_t used,          /* its bytes that hold tables */
     uint64_t cr3,           /* the root table's address; the low 12 bits are ignored */
-    uint64_t cr4,           /* only bit 0x1000 is looked at */
+    uint64_t cr4,           /* only bit 0x1000 is looked at: five levels */
     uint64_t table_offset,  /* how far the region itself moves, in two's complement */
     uint64_t report[8]      /* see enum archwend_report */
 );
@@ -78,10 +81,11 @@ uint64_t archwend_set_page_data(
     uint64_t used,
     uint64_t page_gpa,   /* the page's address before the move */
     const uint8_t *data, /* the page */
-    size_t data_len      /* 4096, or 0: then nothing is changed */
+    size_t data_len,     /* 4096, or 0: then nothing is changed */
+    uint64_t cr4         /* as above, for the region's bound */
 );
 
-/* One page table entry is a word. The level of a root's entries is 3; entries of level 0 map 4 KiB. */
+/* One page table entry is a word. Entries of level 0 map 4 KiB; those of a root are of level 3, with five levels of level 4. */
 
 /* The kinds of a fresh entry; a leaf's is its level. */
 enum archwend_kind {
@@ -119,13 +123,13 @@ uint64_t archwend_is_large_page(uint64_t entry);
 /* Makes all bits of the entry 0. */
 void archwend_clear(uint64_t *entry);
 
-/* How many bytes one entry of a level maps. Returns ARCHWEND_OK, or ARCHWEND_ENTRY for a level above 3. */
+/* How many bytes one entry of a level maps. Returns ARCHWEND_OK, or ARCHWEND_ENTRY for a level above 4. */
 uint64_t archwend_mapping_size(
     uint64_t level,
     uint64_t *size /* bytes, or 0 */
 );
 
-/* Which entry of a level's table maps an address. Returns ARCHWEND_OK, or ARCHWEND_ENTRY for a level above 3. */
+/* Which entry of a level's table maps an address. Returns ARCHWEND_OK, or ARCHWEND_ENTRY for a level above 4. */
 uint64_t archwend_get_amd64_pte_index(
     uint64_t gva,
     uint64_t level,

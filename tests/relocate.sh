@@ -83,12 +83,22 @@ words 0x200000 0x3FFFFF 0x201000 >uneven
 words 0x200000 0x3FFFFF 0x40000000 >far
 words 0x200000 0x3FFFFF $((-0x200000)) >down
 words 0x400000 0x3FFFFF 0 >backward
+# the same tables below a root of five levels, and its range up by 2^48
+head -c $((0x4000)) /dev/zero >deep
+put deep 0 0 0x101023
+put deep 1 0 0x102023
+put deep 2 0 0x103023
+put deep 3 1 0x2000E3
+words 0x200000 0x3FFFFF 0x1000000000000 >across
+words 0x200000 0x3FFFFF $((2 ** 52 - 0x200000)) >past
 : >none
 mkdir folder
 region="0x100000 0x8000 0x100000 0x0 0x0"
+five="0x100000 0x8000 0x100000 0x1000 0x0"
 usage='usage: relocate IMAGE RANGES OUTPUT GPA SIZE CR3 CR4 OFFSET'
 number='not a hexadecimal number of at most 64 bits'
-bad_ranges='8 the ranges are more than 1024, not words in threes or not ascending, or one is empty, past 2^48 or over the region'
+bad_region='1 the region is not whole pages, is empty, has more than 512 tables, ends past the bound, or uses more than its size'
+bad_ranges='8 the ranges are more than 1024, not words in threes or not ascending, or one is empty, past the bound or over the region'
 signed="$number, or one after '-' of at most 2^63"
 
 # shellcheck disable=SC2086
@@ -119,22 +129,28 @@ signed="$number, or one after '-' of at most 2^63"
     wrong "a folder as output" "relocate: OUTPUT: Is a directory" image ranges folder $region
     wrong "no folder for the output" "relocate: OUTPUT: No such file or directory" image ranges nowhere/output $region
 
-    refused "number 1" "$(refusal '1 the region is not whole pages, is empty, has more than 512 tables, ends past 2^48, or uses more than its size')" \
+    refused "number 1" "$(refusal "$bad_region")" \
         image ranges output 0x100000 0x8001 0x100000 0x0 0x0
-    refused "number 5" "$(refusal '5 cr4 asks for five levels (bit 0x1000)')" \
-        image ranges output 0x100000 0x8000 0x100000 0x1000 0x0
+    refused "number 1, four levels" "$(refusal "$bad_region")" \
+        deep none output 0x1000000000000 0x8000 0x1000000000000 0xFFFFFFFFFFFFEFFF 0x0
     refused "number 6" "$(refusal '6 cr3 is not in the region')" \
         image ranges output 0x100000 0x8000 0x108000 0x0 0x0
-    refused "number 7" "$(refusal '7 the table offset is not a multiple of 4096, or moves the region out of 0 to 2^48')" \
+    refused "number 7" "$(refusal '7 the table offset is not a multiple of 4096, or moves the region out of 0 to the bound')" \
         image ranges output 0x100000 0x8000 0x100000 0x0 -0x101000
     refused "number 8" "$(refusal "$bad_ranges")" \
         image backward output $region
     refused "number 9" "$(refusal '9 a table, or the page of a load, lies in the free tail of the region' 0x0 0x4 0x0)" \
         none ranges output $region
+    refused "number 9, five levels" "$(refusal '9 a table, or the page of a load, lies in the free tail of the region' 0x0 0x5 0x0)" \
+        none ranges output $five
     refused "number 12" "$(refusal '12 an offset is not a multiple of the size that the entry maps' 0x200000 0x1 0x201000)" \
         image uneven output $region
+    refused "number 13" "$(refusal '13 a leaf would move out of 0 to the bound' 0x200000 0x1 0xfffffffe00000)" \
+        deep past output $five
     refused "number 19" "$(refusal '19 the region has no free table left' 0x40200000 0x2 0x0)" \
         image far output 0x100000 0x3000 0x100000 0x0 0x0
+    refused "number 19 at the root" "$(refusal '19 the region has no free table left' 0x1000000200000 0x4 0x0)" \
+        deep across output 0x100000 0x4000 0x100000 0x1000 0x0
 
     accepted "no ranges" "$(report '0 accepted' 0x3000 0x0 0x0 0x3 0x0 0x0 0x0)" 0x3000 image none output $region
     verdict "no ranges, the same bytes" cmp -s image output
@@ -151,6 +167,23 @@ signed="$number, or one after '-' of at most 2^63"
     accepted "the tables themselves" "$(report '0 accepted' 0x3000 0x1 0x0 0x3 0x0 0x0 0x0)" 0x3000 \
         image ranges output 0x100000 0x8000 0x100000 0x0 -0x100000
     holds "a pointer" 0 0 1023
+    accepted "five levels, by 0x200000" "$(report '0 accepted' 0x4000 0x1 0x0 0x4 0x0 0x0 0x0)" 0x4000 deep ranges output $five
+    cp deep wanted
+    put wanted 3 1 0
+    put wanted 3 2 0x4000E3
+    verdict "five levels, by 0x200000, the bytes" cmp -s wanted output
+    accepted "five levels, by 2^48" "$(report '0 accepted' 0x7000 0x1 0x0 0x4 0x0 0x0 0x0)" 0x7000 deep across output $five
+    cp deep wanted
+    truncate -s $((0x7000)) wanted
+    put wanted 3 1 0
+    put wanted 0 1 0x104023
+    put wanted 4 0 0x105023
+    put wanted 5 0 0x106023
+    put wanted 6 1 0x10000002000E3
+    verdict "five levels, by 2^48, the bytes" cmp -s wanted output
+    accepted "five levels, a region at 2^48" "$(report '0 accepted' 0x4000 0x0 0x0 0x1 0x0 0x0 0x0)" 0x4000 \
+        deep none output 0x1000000000000 0x8000 0x1000000000000 0x1000 0x0
+    verdict "five levels, a region at 2^48, the same bytes" cmp -s deep output
     cp image both
     accepted "from a copy" "$(report '0 accepted' 0x3000 0x1 0x0 0x3 0x0 0x0 0x0)" 0x3000 both ranges output $region
     run both ranges both $region

@@ -27,6 +27,11 @@
 //! # Ok(())
 //! # }
 //! ```
+//!
+//! # The bound
+//!
+//! The region, the moved region, the ranges and the new places of leaves lie below the bound. It is 2^48; with five levels, which
+//! cr4 asks for by [`X64_CR4_LA57`], it is 2^52.
 
 #![deny(missing_docs)]
 
@@ -35,6 +40,9 @@ use std::ops::RangeInclusive;
 
 /// Number of bytes in a page.
 pub const X64_PAGE_SIZE: u64 = 4096;
+
+/// The bit of cr4 that asks for five levels. No other bit of cr4 counts.
+pub const X64_CR4_LA57: u64 = 0x1000;
 
 /// The largest region: 512 tables.
 pub const MAX_REGION: u64 = 512 * X64_PAGE_SIZE;
@@ -67,6 +75,7 @@ mod ffi {
             page_gpa: u64,
             data: *const u8,
             data_len: usize,
+            cr4: u64,
         ) -> u64;
     }
 }
@@ -76,11 +85,11 @@ mod ffi {
 pub struct CpuPagingState {
     /// The root table's address; the low 12 bits are ignored.
     pub cr3: u64,
-    /// Five-level paging (bit 0x1000) is refused.
+    /// With [`X64_CR4_LA57`] the tables have five levels, else four.
     pub cr4: u64,
 }
 
-/// The memory that holds the tables: whole pages, at most 512, below 2^48.
+/// The memory that holds the tables: whole pages, at most 512, below [the bound](crate#the-bound).
 #[derive(Debug, Clone, Copy, PartialEq, Eq)]
 pub struct Region {
     /// Where it starts.
@@ -96,7 +105,7 @@ pub struct Region {
 pub struct Place {
     /// The first address that the entry maps; for 16 to 19 the moved leaf's new address.
     pub address: u64,
-    /// The entry's level, 3 being the root's; 4 for the root itself.
+    /// The entry's level: 3 in the root table, 4 with five levels. One more for the root itself.
     pub level: u64,
     /// The offset that was asked for, in 12 and 13.
     pub offset: i64,
@@ -118,7 +127,7 @@ pub struct Report {
 /// A refusal.
 #[derive(Debug, Clone, Copy, PartialEq, Eq)]
 pub struct Error {
-    /// Which: 1 to 20, or [`Error::NO_MEMORY`].
+    /// Which: 1 to 20 without 5, which is out of use, or [`Error::NO_MEMORY`].
     pub number: u64,
     /// Where.
     pub place: Place,
@@ -145,7 +154,7 @@ macro_rules! refusals {
                 match self.number {
                     $(Self::$name => $sentence,)*
                     Self::NO_MEMORY => "memory for the answer can't be had",
-                    _ => "refused",
+                    _ => "the number is not known",
                 }
             }
         }
@@ -154,26 +163,25 @@ macro_rules! refusals {
 
 // The names, numbers and sentences of include/archwend.h.
 refusals! {
-    REGION = 1, "the region is not whole pages, is empty, has more than 512 tables, ends past 2^48, or uses more than its size";
+    REGION = 1, "the region is not whole pages, is empty, has more than 512 tables, ends past the bound, or uses more than its size";
     PAGE_LENGTH = 2, "the page data is not 4096 bytes long";
     PAGE_GPA = 3, "the page's address is outside the region, or not a multiple of 4096";
     LENGTHS = 4, "the image is not as long as the used part, or the output is shorter than the region";
-    FIVE_LEVELS = 5, "cr4 asks for five levels (bit 0x1000)";
     CR3 = 6, "cr3 is not in the region";
-    TABLE_OFFSET = 7, "the table offset is not a multiple of 4096, or moves the region out of 0 to 2^48";
-    RANGES = 8, "the ranges are more than 1024, not words in threes or not ascending, or one is empty, past 2^48 or over the region";
+    TABLE_OFFSET = 7, "the table offset is not a multiple of 4096, or moves the region out of 0 to the bound";
+    RANGES = 8, "the ranges are more than 1024, not words in threes or not ascending, or one is empty, past the bound or over the region";
     FREE_TAIL = 9, "a table, or the page of a load, lies in the free tail of the region";
     SHARED_TABLE = 10, "a table is reached twice";
     INTO_MOVED = 11, "an entry points outside the old region but into the moved one";
     UNALIGNED_OFFSET = 12, "an offset is not a multiple of the size that the entry maps";
-    OUT_OF_BOUNDS = 13, "a leaf would move out of 0 to 2^48";
+    OUT_OF_BOUNDS = 13, "a leaf would move out of 0 to the bound";
     SAME_ADDRESS = 14, "two leaves would move to one address";
     SCRATCH_FULL = 15, "the scratch has no room for another moved leaf";
     LARGE_IN_THE_WAY = 16, "a large leaf stands in the way of a moved leaf";
     WAY_OUTSIDE = 17, "the way to a moved leaf leaves the moved region";
     OCCUPIED = 18, "a different entry stands where a moved leaf goes";
     NO_FREE_TABLE = 19, "the region has no free table left";
-    ENTRY = 20, "the address has a bit that the entry can't hold, the level is above 3, or the kind of entry is unknown";
+    ENTRY = 20, "the address has a bit that the entry can't hold, the level is above 4, or the kind of entry is unknown";
 }
 
 impl fmt::Display for Error {
@@ -203,8 +211,8 @@ impl std::error::Error for Error {}
 ///
 /// let region = Region { gpa: 0x100000, size: 0x2000, used: 0x1000 };
 /// let (mut image, mut output, mut scratch) = ([0u8; 0x1000], [0u8; 0x2000], [0u64; 3]);
-/// set_page_data_in(&mut image, region, 0x100000, &[0; 4096]).unwrap();
 /// let cpu = CpuPagingState { cr3: 0x100000, cr4: 0 };
+/// set_page_data_in(&mut image, region, 0x100000, &[0; 4096], cpu.cr4).unwrap();
 /// let report = build_in(&image, &mut output, &mut scratch, &[], region, 0, cpu).unwrap();
 /// assert_eq!((report.used, report.reached), (0x1000, 1));
 /// let refused = build_in(&image, &mut output[..5], &mut scratch, &[], region, 0, cpu).unwrap_err();
@@ -249,8 +257,9 @@ pub fn build_in(
     }
 }
 
-/// Loads one page of tables into a lent image of `region.used` bytes. Empty data changes nothing; a refusal neither.
-pub fn set_page_data_in(image: &mut [u8], region: Region, gpa: u64, data: &[u8]) -> Result<(), Error> {
+/// Loads one page of tables into a lent image of `region.used` bytes. Empty data changes nothing; a refusal neither. `cr4` decides
+/// [the bound](crate#the-bound) of the region, as in a build.
+pub fn set_page_data_in(image: &mut [u8], region: Region, gpa: u64, data: &[u8], cr4: u64) -> Result<(), Error> {
     // Safety: as in build_in.
     let number = unsafe {
         ffi::archwend_set_page_data(
@@ -262,6 +271,7 @@ pub fn set_page_data_in(image: &mut [u8], region: Region, gpa: u64, data: &[u8])
             gpa,
             data.as_ptr(),
             data.len(),
+            cr4,
         )
     };
     match number {
@@ -288,6 +298,9 @@ fn bounded(n: u64) -> usize {
 }
 
 /// A builder that rebuilds the page tables of one region.
+///
+/// Only [`build`](Self::build) is told cr4. Until then the region has [the bound](crate#the-bound) of five levels; one that ends
+/// past 2^48 is taken by [`new`](Self::new), and refused with 1 by a build of four levels.
 #[derive(Debug, Clone)]
 pub struct PageTableRelocationBuilder {
     /// Base gpa for the page table region.
@@ -315,7 +328,8 @@ impl PageTableRelocationBuilder {
     /// Sets one page of the tables, 4096 bytes; `gpa` is where it was before the move. Empty data changes nothing.
     pub fn set_page_data(&mut self, gpa: u64, data: &[u8]) -> Result<(), Error> {
         let region = self.region();
-        set_page_data_in(&mut self.page_data, region, gpa, data)
+        // The wider bound: what is refused by it is refused by every build.
+        set_page_data_in(&mut self.page_data, region, gpa, data, X64_CR4_LA57)
     }
 
     /// Whether the address is in the region.

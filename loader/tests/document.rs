@@ -1,16 +1,23 @@
-//! The specification's examples, each refusal, and buffers too short, through the public calls.
+//! The specification's examples, each refusal, five levels, and buffers too short, through the public calls.
 
 use archwend::*;
 
 const GPA: u64 = 0x100000;
 const CPU: CpuPagingState = CpuPagingState { cr3: GPA, cr4: 0 };
+const FIVE: CpuPagingState = CpuPagingState { cr3: GPA, cr4: 0x1000 };
+/// Every bit of cr4 but the one for five levels.
+const OTHERS: u64 = !0x1000;
 const PAGE: u64 = 0x200000;
 const LIMIT: u64 = 1 << 48;
+const WIDE_LIMIT: u64 = 1 << 52;
 
 /// Table, entry, word.
 type Entry = (usize, usize, u64);
 
 const BASE: [Entry; 3] = [(0, 0, 0x101023), (1, 0, 0x102023), (2, 1, 0x2000e3)];
+
+/// The base below a root whose entries are of level 4.
+const DEEP: [Entry; 4] = [(0, 0, 0x101023), (1, 0, 0x102023), (2, 0, 0x103023), (3, 1, 0x2000e3)];
 
 fn tables(count: usize, entries: &[Entry]) -> Vec<u8> {
     let mut words = vec![0u64; 512 * count];
@@ -20,13 +27,17 @@ fn tables(count: usize, entries: &[Entry]) -> Vec<u8> {
     words.iter().flat_map(|w| w.to_le_bytes()).collect()
 }
 
-/// A builder of the region with three tables, loaded page by page.
-fn builder(size: u64, entries: &[Entry]) -> PageTableRelocationBuilder {
-    let mut b = PageTableRelocationBuilder::new(GPA, size, 0x3000).unwrap();
-    for (i, page) in tables(3, entries).chunks(4096).enumerate() {
-        b.set_page_data(GPA + 4096 * i as u64, page).unwrap();
+/// A builder of a region with so many tables, loaded page by page.
+fn builder_at(gpa: u64, size: u64, count: usize, entries: &[Entry]) -> PageTableRelocationBuilder {
+    let mut b = PageTableRelocationBuilder::new(gpa, size, 4096 * count as u64).unwrap();
+    for (i, page) in tables(count, entries).chunks(4096).enumerate() {
+        b.set_page_data(gpa + 4096 * i as u64, page).unwrap();
     }
     b
+}
+
+fn builder(size: u64, entries: &[Entry]) -> PageTableRelocationBuilder {
+    builder_at(GPA, size, 3, entries)
 }
 
 /// The base with some entries more, and its one range by an offset.
@@ -35,8 +46,18 @@ fn base(offset: i64, size: u64, more: &[Entry]) -> Result<(Vec<u8>, Report), Err
     builder(size, &entries).build_and_report(0, &[(PAGE..=0x3fffff, offset)], CPU)
 }
 
+/// The same with five levels; an entry given twice is the later.
+fn deep(offset: i64, size: u64, more: &[Entry]) -> Result<(Vec<u8>, Report), Error> {
+    let entries = [&DEEP, more].concat();
+    builder_at(GPA, size, 4, &entries).build_and_report(0, &[(PAGE..=0x3fffff, offset)], FIVE)
+}
+
 fn refusal(number: u64, address: u64, level: u64, offset: i64) -> Error {
     Error { number, place: Place { address, level, offset } }
+}
+
+fn number<T>(answer: Result<T, Error>) -> u64 {
+    answer.err().map_or(0, |e| e.number)
 }
 
 #[test]
@@ -64,6 +85,97 @@ fn the_checked_examples() {
 }
 
 #[test]
+fn five_levels() {
+    let report = |used, moved| Report { used, moved, merged: 0, reached: 4 };
+    let [root, third, second, _] = DEEP;
+    assert_eq!(deep(0x1ff000, 0x8000, &[]), Ok((tables(4, &DEEP), report(0x4000, 0))));
+    let up = [root, third, second, (3, 2, 0x4000e3)];
+    assert_eq!(deep(0x200000, 0x8000, &[]), Ok((tables(4, &up), report(0x4000, 1))));
+    let down = [root, third, second, (3, 0, 0xe3)];
+    assert_eq!(deep(-0x200000, 0x8000, &[]), Ok((tables(4, &down), report(0x4000, 1))));
+    assert_eq!(deep(-0x400000, 0x8000, &[]), Err(refusal(13, PAGE, 1, -0x400000)));
+    // By way of another entry of the root: three tables more, or not so many left.
+    let over = [root, third, second, (0, 1, 0x104023), (4, 0, 0x105023), (5, 0, 0x106023), (6, 1, 0x10000002000e3)];
+    assert_eq!(deep(1 << 48, 0x7000, &[]), Ok((tables(7, &over), report(0x7000, 1))));
+    for (size, level) in [(0x6000, 2), (0x5000, 3), (0x4000, 4)] {
+        assert_eq!(deep(1 << 48, size, &[]), Err(refusal(19, 0x1000000200000, level, 0)));
+    }
+    // Back again.
+    let b = builder_at(GPA, 0x8000, 4, &[(0, 1, 0x101023), third, second, DEEP[3]]);
+    let back = [(0, 1, 0x101023), third, second, (0, 0, 0x104023), (4, 0, 0x105023), (5, 0, 0x106023), (6, 1, 0x2000e3)];
+    assert_eq!(b.build(0, &[(0x1000000200000..=0x10000003fffff, -1 << 48)], FIVE), Ok(tables(7, &back)));
+    // The last 2 MiB below 2^52, and the next.
+    let top = (WIDE_LIMIT - 2 * PAGE) as i64;
+    let last = [root, third, second, (0, 15, 0x104023), (4, 511, 0x105023), (5, 511, 0x106023), (6, 511, 0xfffffffe000e3)];
+    assert_eq!(deep(top, 0x8000, &[]), Ok((tables(7, &last), report(0x7000, 1))));
+    assert_eq!(deep(top + PAGE as i64, 0x8000, &[]), Err(refusal(13, PAGE, 1, top + PAGE as i64)));
+}
+
+/// Level 4 in places, and entries that map from 2^52 up: these are walked, and their leaves stay.
+#[test]
+fn level_four() {
+    let report = |moved| Report { used: 0x4000, moved, merged: 0, reached: 4 };
+    let wide = (DEEP[0].0, 16, DEEP[0].2);
+    let high = [(0, 0, 0), wide, DEEP[1], DEEP[2], DEEP[3]];
+    assert_eq!(deep(0x200000, 0x8000, &high), Ok((tables(4, &high), report(0))));
+    assert_eq!(deep(0x200000, 0x8000, &[(0, 16, 0x104023)]), Err(refusal(9, 1 << 52, 4, 0)));
+    assert_eq!(deep(0x200000, 0x8000, &[(0, 511, 0x100023)]), Err(refusal(10, 511 << 48, 4, 0)));
+    let b = builder_at(GPA, 0x8000, 4, &[&DEEP[..], &[(0, 16, 0x108023)]].concat());
+    assert_eq!(b.build(0x8000, &[], FIVE), Err(refusal(11, 1 << 52, 4, 0)));
+    assert_eq!(deep(1 << 48, 0x8000, &[(0, 1, 0x500023)]), Err(refusal(17, 0x1000000200000, 4, 0)));
+    // The root itself, one level above its entries.
+    let b = builder_at(GPA, 0x8000, 4, &DEEP);
+    assert_eq!(b.build(0, &[], CpuPagingState { cr3: 0x104000, ..FIVE }), Err(refusal(9, 0, 5, 0)));
+    // Bit 7 means nothing at levels 4 and 3, on the walk and on the way of a moved leaf.
+    let marked = [(0, 0, 0x1010a3), (1, 0, 0x1020a3)];
+    let up = [marked[0], marked[1], DEEP[2], (3, 2, 0x4000e3)];
+    assert_eq!(deep(0x200000, 0x8000, &marked), Ok((tables(4, &up), report(1))));
+}
+
+/// Ranges and the moved region end at the bound, and no bit of cr4 counts but one.
+#[test]
+fn the_bound_of_ranges_and_of_the_moved_region() {
+    let build = |cr4: u64, entries: &[Entry], offset: u64, last: u64| {
+        let b = builder_at(GPA, 0x8000, entries.len(), entries);
+        number(b.build(offset as i64, &[(PAGE..=last, 0)], CpuPagingState { cr4, ..CPU }))
+    };
+    for cr4 in [0, OTHERS] {
+        assert_eq!([LIMIT - 1, LIMIT, WIDE_LIMIT - 1].map(|last| build(cr4, &BASE, 0, last)), [0, 8, 8]);
+        let end = LIMIT - GPA - 0x8000;
+        assert_eq!([end, end + 0x1000, LIMIT].map(|offset| build(cr4, &BASE, offset, PAGE)), [0, 7, 7]);
+    }
+    for cr4 in [0x1000, u64::MAX] {
+        assert_eq!([LIMIT, WIDE_LIMIT - 1, WIDE_LIMIT].map(|last| build(cr4, &DEEP, 0, last)), [0, 0, 8]);
+        let end = WIDE_LIMIT - GPA - 0x8000;
+        assert_eq!([LIMIT, end, end + 0x1000].map(|offset| build(cr4, &DEEP, offset, PAGE)), [0, 0, 7]);
+    }
+}
+
+#[test]
+fn the_bound_of_a_region() {
+    let load = |cr4: u64, gpa: u64| {
+        let mut image = [0; 4096];
+        let n = number(set_page_data_in(&mut image, Region { gpa, size: 0x8000, used: 0x1000 }, gpa, &[0x5a; 4096], cr4));
+        assert_eq!(image, [if n == 0 { 0x5a } else { 0 }; 4096]);
+        n
+    };
+    for cr4 in [0, OTHERS] {
+        assert_eq!([LIMIT - 0x8000, LIMIT - 0x7000, LIMIT].map(|gpa| load(cr4, gpa)), [0, 1, 1]);
+    }
+    for cr4 in [0x1000, u64::MAX] {
+        assert_eq!([LIMIT, WIDE_LIMIT - 0x8000, WIDE_LIMIT - 0x7000, WIDE_LIMIT].map(|gpa| load(cr4, gpa)), [0, 0, 1, 1]);
+    }
+    // The builder has the wider bound until its build.
+    let new = |gpa| PageTableRelocationBuilder::new(gpa, 0x8000, 0x4000).err();
+    assert_eq!([LIMIT, WIDE_LIMIT - 0x8000].map(new), [None, None]);
+    assert_eq!(new(WIDE_LIMIT - 0x7000), Some(refusal(1, 0, 0, 0)));
+    let entries = [(0, 0, LIMIT + 0x1023), (1, 0, LIMIT + 0x2023), (2, 0, LIMIT + 0x3023), DEEP[3]];
+    let b = builder_at(LIMIT, 0x8000, 4, &entries);
+    assert_eq!(b.clone().build(0, &[], CpuPagingState { cr3: LIMIT, cr4: OTHERS }), Err(refusal(1, 0, 0, 0)));
+    assert_eq!(b.build(0, &[], CpuPagingState { cr3: LIMIT, cr4: 0x1000 }), Ok(tables(4, &entries)));
+}
+
+#[test]
 fn build_hands_back_the_tables() {
     let b = builder(0x8000, &BASE);
     assert_eq!(b.build(0, &[], CPU), Ok(tables(3, &BASE)));
@@ -85,7 +197,6 @@ fn contains() {
 
 #[test]
 fn loads() {
-    let number = |r: Result<(), Error>| r.err().map_or(0, |e| e.number);
     let mut b = builder(0x8000, &BASE);
     let page = [0x5a; 8192];
     assert_eq!(number(b.set_page_data(0, &[])), 0);
@@ -98,10 +209,10 @@ fn loads() {
     // A refused load changed nothing.
     assert_eq!(b.build(0, &[], CPU), Ok(tables(3, &BASE)));
     let region = Region { gpa: GPA, size: 0x1000, used: 0x1000 };
-    assert_eq!(number(set_page_data_in(&mut [0; 4095], region, GPA, &[])), 4);
-    assert_eq!(number(set_page_data_in(&mut [], Region { size: 5, ..region }, GPA, &[])), 1);
+    assert_eq!(number(set_page_data_in(&mut [0; 4095], region, GPA, &[], 0)), 4);
+    assert_eq!(number(set_page_data_in(&mut [], Region { size: 5, ..region }, GPA, &[], 0)), 1);
     let mut image = [0; 4096];
-    assert_eq!(number(set_page_data_in(&mut image, region, GPA, &page[..4096])), 0);
+    assert_eq!(number(set_page_data_in(&mut image, region, GPA, &page[..4096], 0)), 0);
     assert_eq!(image[..], page[..4096]);
 }
 
@@ -112,7 +223,6 @@ fn each_refusal_of_a_build() {
         builder(0x8000, &[&BASE, entries].concat()).build(table, &list, cpu).unwrap_err()
     };
     assert_eq!(PageTableRelocationBuilder::new(1, 0x1000, 0x1000).unwrap_err(), refusal(1, 0, 0, 0));
-    assert_eq!(build(&[], 0, &[], CpuPagingState { cr4: 0x1000, ..CPU }), refusal(5, 0, 0, 0));
     assert_eq!(build(&[], 0, &[], CpuPagingState { cr3: 0xff000, ..CPU }), refusal(6, 0, 0, 0));
     assert_eq!(build(&[], 1, &[], CPU), refusal(7, 0, 0, 0));
     assert_eq!(build(&[], -0x101000, &[], CPU), refusal(7, 0, 0, 0));
@@ -159,16 +269,15 @@ fn lent_buffers() {
 
 #[test]
 fn any_numbers_are_taken() {
-    let odd = [0, 1, 0x1000, 0x3000, 0x100000, 0x200001, LIMIT, u64::MAX - 4095, u64::MAX];
+    let odd = [0, 1, 0x1000, 0x3000, 0x100000, 0x200001, LIMIT, WIDE_LIMIT, u64::MAX - 4095, u64::MAX];
     for gpa in odd {
         for size in odd {
             for used in odd {
                 let region = Region { gpa, size, used };
-                let _ = set_page_data_in(&mut [0; 8], region, size, &[1; 3]);
-                for cr3 in [gpa, u64::MAX] {
-                    let cpu = CpuPagingState { cr3, cr4: u64::MAX };
+                for (cr3, cr4) in [(gpa, 0), (gpa, u64::MAX), (u64::MAX, 0), (u64::MAX, u64::MAX)] {
+                    let _ = set_page_data_in(&mut [0; 8], region, size, &[1; 3], cr4);
                     for offset in [0, i64::MIN, -1, i64::MAX] {
-                        let _ = build_in(&[], &mut [], &mut [], &[], region, offset, cpu);
+                        let _ = build_in(&[], &mut [], &mut [], &[], region, offset, CpuPagingState { cr3, cr4 });
                     }
                 }
                 // A region changed after it was made; not all of them, as this one takes memory.
@@ -191,12 +300,18 @@ fn any_numbers_are_taken() {
 
 #[test]
 fn each_refusal_has_its_sentence() {
-    let all: Vec<&str> = (1..=20).chain([Error::NO_MEMORY]).map(|n| refusal(n, 0, 0, 0).sentence()).collect();
+    let numbers = (1..=20).filter(|n| *n != 5).chain([Error::NO_MEMORY]);
+    let all: Vec<&str> = numbers.map(|n| refusal(n, 0, 0, 0).sentence()).collect();
     let mut single = all.clone();
     single.sort();
     single.dedup();
     assert_eq!(single.len(), all.len());
-    assert!(!all.contains(&"refused"));
+    // Of a number that is out of use, or that no refusal has yet.
+    for n in [5, 21] {
+        let unknown = refusal(n, 0, 0, 0);
+        assert!(!all.contains(&unknown.sentence()));
+        assert_eq!(unknown.to_string(), format!("the number is not known (refusal {n})"));
+    }
     let text = refusal(12, PAGE, 1, 0x201000).to_string();
     assert!(text.contains("refusal 12 at 0x200000, level 1, offset 2101248"), "{text}");
 }

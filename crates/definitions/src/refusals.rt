@@ -8,7 +8,7 @@ pub const PAGE_GPA: u64 = 3;
 
 pub const LENGTHS: u64 = 4;
 
-pub const FIVE_LEVELS: u64 = 5;
+// 5 is out of use: it was given for five levels.
 
 pub const CR3: u64 = 6;
 

@@ -220,7 +220,7 @@ fn put_checks(number: u64) -> bool {
     match number {
         0 => put(b"accepted"),
         refusals::REGION => put(
-            b"the region is not whole pages, is empty, has more than 512 tables, ends past 2^48, or uses more than its size",
+            b"the region is not whole pages, is empty, has more than 512 tables, ends past the bound, or uses more than its size",
         ),
         refusals::PAGE_LENGTH => put(b"the page data is not 4096 bytes long"),
         refusals::PAGE_GPA => put(
@@ -229,13 +229,12 @@ fn put_checks(number: u64) -> bool {
         refusals::LENGTHS => put(
             b"the image is not as long as the used part, or the output is shorter than the region",
         ),
-        refusals::FIVE_LEVELS => put(b"cr4 asks for five levels (bit 0x1000)"),
         refusals::CR3 => put(b"cr3 is not in the region"),
         refusals::TABLE_OFFSET => put(
-            b"the table offset is not a multiple of 4096, or moves the region out of 0 to 2^48",
+            b"the table offset is not a multiple of 4096, or moves the region out of 0 to the bound",
         ),
         refusals::RANGES => put(
-            b"the ranges are more than 1024, not words in threes or not ascending, or one is empty, past 2^48 or over the region",
+            b"the ranges are more than 1024, not words in threes or not ascending, or one is empty, past the bound or over the region",
         ),
         refusals::FREE_TAIL => put(
             b"a table, or the page of a load, lies in the free tail of the region",
@@ -254,7 +253,7 @@ fn put_sentence(number: u64) -> bool {
         refusals::UNALIGNED_OFFSET => put(
             b"an offset is not a multiple of the size that the entry maps",
         ),
-        refusals::OUT_OF_BOUNDS => put(b"a leaf would move out of 0 to 2^48"),
+        refusals::OUT_OF_BOUNDS => put(b"a leaf would move out of 0 to the bound"),
         refusals::SAME_ADDRESS => put(b"two leaves would move to one address"),
         refusals::SCRATCH_FULL => put(b"the scratch has no room for another moved leaf"),
         refusals::LARGE_IN_THE_WAY => put(b"a large leaf stands in the way of a moved leaf"),
@@ -262,7 +261,7 @@ fn put_sentence(number: u64) -> bool {
         refusals::OCCUPIED => put(b"a different entry stands where a moved leaf goes"),
         refusals::NO_FREE_TABLE => put(b"the region has no free table left"),
         refusals::ENTRY => put(
-            b"the address has a bit that the entry can't hold, the level is above 3, or the kind of entry is unknown",
+            b"the address has a bit that the entry can't hold, the level is above 4, or the kind of entry is unknown",
         ),
         _ => put_checks(number),
     }
