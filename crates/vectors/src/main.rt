@@ -1,5 +1,5 @@
-// Replays the Rust's recorded answers (data/vectors, made as data/README says) through the proved operations, those on entries,
-// levels, tables and masks as the library exports them. A line is up to four words in hexadecimal: what it is, and its numbers.
+// Replays the Rust's recorded answers (data/vectors, made as data/README says) through the proved operations, all but the build
+// as the library exports them. A line is up to four words in hexadecimal: what it is, and its numbers.
 use archwend::entries;
 use build::CpuPagingState;
 use definitions::Region;
@@ -115,22 +115,22 @@ fn add_range(ranges: &mut [u64], v: &mut [u64; REGISTERS]) {
     }
 }
 
-// A load of v[2] bytes at v[1], which is to answer v[3].
+// The answer to a load of some data at v[1].
+fn loaded(image: &mut [u8], data: &[u8], cr4: u64, v: &[u64; REGISTERS]) -> u64 {
+    archwend::archwend_set_page_data(image, v[GPA], v[SIZE], v[USED], v[1], data, cr4)
+}
+
+// A load of v[2] bytes at v[1], which is to answer v[3] with four levels and with five: the Rust's loads know no cr4, and the
+// recorded regions lie below both bounds.
 fn load(image: &mut [u8], v: &mut [u64; REGISTERS]) {
     let page = [0x5au8; 8192];
     let n = v[2] as usize;
     let used = v[USED] as usize;
-    let r = region(v);
     if n <= 8192 {
         if used <= image.len() {
-            let answer = region::set_page_data(
-                &mut image[0..used],
-                levels::four(),
-                r,
-                v[1],
-                &page[0..n],
-            );
-            count(answer == v[3], v);
+            let four = loaded(&mut image[0..used], &page[0..n], 0, v);
+            let five = loaded(&mut image[0..used], &page[0..n], 0x1000, v);
+            count(four == v[3] && five == v[3], v);
             return;
         }
     }
