@@ -84,9 +84,19 @@ fn theirs_of(what: &str) -> String {
     }
 }
 
+const PAST: &str = "past the bound";
+
+/// Stands for a rule where the number has several and the job breaks none of them.
+pub const NONE_BROKEN: &str = "no rule broken";
+
+/// Takes a job out of the shared domain, whatever else does: the original ends before it looks.
+pub const FIVE: &str = "five levels";
+
 /// The first rule of the number that the job breaks.
 fn rule(job: &Job, number: u64) -> &'static str {
-    let to = job.gpa as i128 + job.table_offset as i128;
+    let bound = document::bound(job) as i128;
+    let (gpa, size) = (job.gpa as i128, job.size as i128);
+    let to = gpa + job.table_offset as i128;
     let any = |bad: &dyn Fn(&(u64, u64, i64)) -> bool| job.ranges.iter().any(bad);
     let rules: &[(bool, &str)] = match number {
         1 => &[
@@ -96,19 +106,26 @@ fn rule(job: &Job, number: u64) -> &'static str {
             (job.used > job.size, "used above size"),
             (job.size == 0, "empty"),
             (job.size > 512 * 4096, "many"),
-            (true, "past 2^48"),
+            (gpa + size > bound, PAST),
         ],
-        7 => &[(job.table_offset % 4096 != 0, "no whole pages"), (to < 0, "below 0"), (true, "past 2^48")],
+        7 => &[(job.table_offset % 4096 != 0, "no whole pages"), (to < 0, "below 0"), (to + size > bound, PAST)],
         8 => &[
             (job.ranges.len() > 1024, "many"),
             (any(&|r| r.0 > r.1), "first above last"),
-            (any(&|r| r.1 >= document::LIMIT), "past 2^48"),
+            (any(&|r| r.1 as i128 >= bound), PAST),
             (any(&|r| r.0 < job.gpa + job.size && r.1 >= job.gpa), "over the region"),
-            (true, "not ascending"),
+            (job.ranges.windows(2).any(|w| w[1].0 <= w[0].1), "not ascending"),
         ],
         _ => &[(true, "")],
     };
-    rules.iter().find(|r| r.0).map_or("", |r| r.1)
+    rules.iter().find(|r| r.0).map_or(NONE_BROKEN, |r| r.1)
+}
+
+/// What else takes a job that was walked out of the shared domain.
+fn also(job: &Job, image: &[u8]) -> Vec<&'static str> {
+    let downward = job.table_offset < 0 || job.ranges.iter().any(|r| r.2 < 0);
+    let reasons = [(downward, "downward"), (!document::touched_once(job, &jobs::words(image)), "two ranges")];
+    reasons.iter().filter(|r| r.0).map(|r| r.1).collect()
 }
 
 /// How the first load that differs does, and how the build does.
@@ -120,16 +137,10 @@ pub fn classes(job: &Job, mine: &Ours, theirs: &Answer) -> Vec<Class> {
         found.push(Class { ours: format!("load: ours {n}"), rule, also, theirs: theirs_of(&what) });
     }
     let number = mine.number();
-    let not_walked = [1, 4, 5, 7, 8].contains(&number);
+    let not_walked = [1, 4, 7, 8].contains(&number) || document::five_levels(job);
     // After loads that differ the two walk different images.
     if let Some(what) = build_difference(mine, theirs).filter(|_| not_walked || load.is_none()) {
-        let mut also = Vec::new();
-        if !not_walked && (job.table_offset < 0 || job.ranges.iter().any(|r| r.2 < 0)) {
-            also.push("downward");
-        }
-        if !not_walked && !document::touched_once(job, &jobs::words(&mine.image)) {
-            also.push("two ranges");
-        }
+        let also = if document::five_levels(job) { vec![FIVE] } else if not_walked { Vec::new() } else { also(job, &mine.image) };
         found.push(Class { ours: format!("build: ours {number}"), rule: rule(job, number), also, theirs: theirs_of(&what) });
     }
     found

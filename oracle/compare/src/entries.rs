@@ -151,7 +151,7 @@ pub fn round(r: &mut Random, t: &mut Tally) {
     t.same("gpa", word, exports::gpa(word), gpa(word));
     t.same("clear", word, Some(exports::clear(word)), clear(word));
     set_one(r, t, word);
-    let (gva, level) = (r.word(), r.below(4));
+    let (gva, level) = (r.word(), r.below(5));
     t.same("get_amd64_pte_index", (gva, level), exports::get_amd64_pte_index(gva, level), (0, index(gva, level as u8).expect("no panic")));
     size_one(r, t);
     table_one(r, t);

@@ -28,7 +28,7 @@ pub fn ours(job: &Job, room: usize) -> Ours {
     let mut loads = Vec::new();
     let mut before = image.clone();
     for l in &job.loads {
-        let n = set_page_data_in(&mut image, region, l.gpa, &l.data).err().map_or(0, |e| e.number);
+        let n = set_page_data_in(&mut image, region, l.gpa, &l.data, job.cr4).err().map_or(0, |e| e.number);
         if n != 0 && image != before {
             wrong = Some("a refused load changed the image");
         }
@@ -62,6 +62,12 @@ pub fn ours(job: &Job, room: usize) -> Ours {
 
 pub fn in_shared_domain(job: &Job, ours: &Ours) -> bool {
     document::shared(job, &ours.loads, ours.number(), &jobs::words(&ours.image))
+}
+
+/// Whether a load of the shared domain was answered differently, be the build in it or not.
+pub fn shared_load_differs(job: &Job, ours: &Ours, theirs: &Answer) -> bool {
+    let mut all = job.loads.iter().zip(&ours.loads).zip(&theirs.loads);
+    all.any(|((l, a), b)| document::load_shared(job, l, *a) && *b != Ok(*a))
 }
 
 /// What differs between the two answers, if anything does.

@@ -1,9 +1,25 @@
-//! A few lines that state the specification: entries, and which jobs are in the domain shared with the Rust.
+//! A few lines that state the specification: levels, entries, and which jobs are in the domain shared with the Rust.
 
-use crate::Job;
+use crate::{Job, Load};
 
 pub const FIELD: u64 = 0x000f_ffff_ffff_f000;
-pub const LIMIT: u64 = 1 << 48;
+
+/// The bit of cr4 that asks for five levels.
+pub const LA57: u64 = 0x1000;
+
+pub fn five_levels(job: &Job) -> bool {
+    job.cr4 & LA57 != 0
+}
+
+/// The level of the root's entries.
+pub fn top(job: &Job) -> usize {
+    3 + five_levels(job) as usize
+}
+
+/// Where the region, the moved region, ranges and new spans end at the latest.
+pub fn bound(job: &Job) -> u64 {
+    1 << if five_levels(job) { 52 } else { 48 }
+}
 
 /// What one entry of the level maps.
 pub fn span(level: usize) -> u64 {
@@ -23,14 +39,21 @@ pub fn is_pointer(entry: u64, level: usize) -> bool {
     entry & 1 == 1 && !is_leaf(entry, level)
 }
 
-/// The leaves that a walk from the root reaches, as address, level and place among the words. A table is walked where pass 1 first
-/// meets it: what it would meet again is refused.
-pub fn leaves(job: &Job, words: &[u64]) -> Vec<(u64, usize, usize)> {
+/// The present entries that a walk from the root reaches, as address, level and place among the words. A table is walked where
+/// pass 1 first meets it: what it would meet again is refused.
+pub fn entries(job: &Job, words: &[u64]) -> Vec<(u64, usize, usize)> {
     let mut found = Vec::new();
     let mut reached = vec![false; words.len() / 512];
     if let Some(root) = table(job, job.cr3) {
-        walk(job, words, root, 3, 0, &mut reached, &mut found);
+        walk(job, words, root, top(job), 0, &mut reached, &mut found);
     }
+    found
+}
+
+/// Those of them that are leaves.
+pub fn leaves(job: &Job, words: &[u64]) -> Vec<(u64, usize, usize)> {
+    let mut found = entries(job, words);
+    found.retain(|&(_, level, at)| is_leaf(words[at], level));
     found
 }
 
@@ -46,10 +69,12 @@ fn walk(job: &Job, words: &[u64], t: usize, level: usize, base: u64, reached: &m
     reached[t] = true;
     for i in 0..512 {
         let e = words[512 * t + i];
+        if e & 1 == 0 {
+            continue;
+        }
         let address = base + i as u64 * span(level);
-        if is_leaf(e, level) {
-            found.push((address, level, 512 * t + i));
-        } else if is_pointer(e, level) {
+        found.push((address, level, 512 * t + i));
+        if is_pointer(e, level) {
             if let Some(below) = table(job, e & FIELD) {
                 walk(job, words, below, level - 1, address, reached, found);
             }
@@ -71,13 +96,20 @@ pub fn touched_once(job: &Job, words: &[u64]) -> bool {
     })
 }
 
-/// Whether the job is in the shared domain, given the numbers that the proved code answered and the image it was given.
+/// Whether a load is in the shared domain, given its number. Whatever cr4 is: the original's loads have no bound, and where the
+/// region ends past ours the number is 1.
+pub fn load_shared(job: &Job, load: &Load, number: u64) -> bool {
+    let at = load.gpa.wrapping_sub(job.gpa);
+    [0, 2, 3].contains(&number) && load.gpa % 4096 == 0 && !(job.used..job.size).contains(&at)
+}
+
+/// Whether the job is in the shared domain, given the numbers that the proved code answered and the image it was given. Builds of
+/// five levels, where the original panics, are not.
 pub fn shared(job: &Job, loads: &[u64], built: u64, image: &[u64]) -> bool {
-    loads.iter().all(|n| [0, 2, 3].contains(n))
+    !five_levels(job)
+        && job.loads.iter().zip(loads).all(|(l, n)| load_shared(job, l, *n))
         && [0, 6, 12, 19].contains(&built)
         && job.table_offset >= 0
         && job.ranges.iter().all(|r| r.2 >= 0)
-        && job.loads.iter().all(|l| l.gpa % 4096 == 0)
-        && job.loads.iter().all(|l| l.gpa < job.gpa || l.gpa - job.gpa < job.used || l.gpa - job.gpa >= job.size)
         && touched_once(job, image)
 }

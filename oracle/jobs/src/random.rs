@@ -90,18 +90,19 @@ impl Draft<'_> {
         let size = (used + free).min(512) * 4096;
         self.job.used = used * 4096;
         self.job.size = size;
+        let bound = bound(&self.job);
         self.job.gpa = match self.r.below(10) {
             0 => 0,
-            1 => LIMIT - size,
-            2 => LIMIT - size - self.r.below(64) * 4096,
+            1 => bound - size,
+            2 => bound - size - self.r.below(64) * 4096,
             3..=5 => 0x10_0000,
             6 => self.r.below(64) * 0x20_0000,
             7 => self.r.below(64) * 0x4000_0000,
-            _ => self.r.below((LIMIT - size) / 4096 + 1) * 4096,
+            _ => self.r.below((bound - size) / 4096 + 1) * 4096,
         };
         let gpa = self.job.gpa;
-        self.likes = vec![gpa, gpa + size - 1, 0, 0x20_0000, 0x4000_0000, LIMIT - 1];
-        let any = self.r.below(LIMIT);
+        self.likes = vec![gpa, gpa + size - 1, 0, 0x20_0000, 0x4000_0000, bound - 1];
+        let any = self.r.below(bound);
         self.likes.push(any);
     }
 
@@ -118,7 +119,7 @@ impl Draft<'_> {
         if self.r.percent(20) {
             self.job.cr3 += self.r.below(4096);
         }
-        self.nodes = vec![Node { table: root, level: 3, base: 0 }];
+        self.nodes = vec![Node { table: root, level: top(&self.job), base: 0 }];
         let unreached = if self.r.percent(20) { self.r.below(3) as usize } else { 0 };
         while order.len() > unreached {
             // The newest table more often, so that trees are deep.
@@ -156,8 +157,8 @@ impl Draft<'_> {
             return;
         }
         let t = order.pop().unwrap();
-        // Bit 7 says nothing at level 3.
-        let large = level == 3 && self.r.percent(20);
+        // Bit 7 says nothing from level 3 up.
+        let large = level >= 3 && self.r.percent(20);
         self.image[512 * table + i] = self.flags(large) | (self.job.gpa + 4096 * t as u64);
         self.nodes.push(Node { table: t, level: level - 1, base: base + i as u64 * span(level) });
     }
@@ -179,12 +180,12 @@ impl Draft<'_> {
                 }
                 let large = level > 0 || self.r.percent(20);
                 let address = if self.r.percent(85) { base + i as u64 * span(level) } else { self.r.word() & FIELD };
-                self.image[at] = self.flags(large) | address;
+                self.image[at] = self.flags(large) | (address & FIELD);
             }
         }
         if level > 0 && self.r.percent(12) {
             let i = self.slot(n);
-            let away = self.r.word() & FIELD & (LIMIT - 1);
+            let away = self.r.word() & FIELD & (bound(&self.job) - 1);
             let outside = away < self.job.gpa || away - self.job.gpa >= self.job.size;
             if self.image[512 * table + i] & 1 == 0 && outside {
                 self.image[512 * table + i] = self.flags(false) | away;
@@ -201,7 +202,7 @@ impl Draft<'_> {
     /// An offset for leaves of up to this level that end at or before the address.
     fn offset(&mut self, level: usize, end: u64) -> i64 {
         let s = span(level);
-        let room = LIMIT - 1 - end;
+        let room = bound(&self.job) - 1 - end;
         let k = room / s;
         let o = match self.r.below(28) {
             0 => 0,
@@ -213,7 +214,7 @@ impl Draft<'_> {
             6 | 7 => s * self.r.below(k + 1),
             8 | 9 => span(level + 1) * self.r.below(room / span(level + 1) + 1),
             10 => span(level + 1),
-            11 => span((level + 2).min(3)),
+            11 => span((level + 2).min(top(&self.job))),
             12 | 13 => s * self.r.within(1, 600),
             _ => s * self.r.within(1, 8),
         };
@@ -224,9 +225,10 @@ impl Draft<'_> {
     }
 
     fn ranges(&mut self) {
+        let (gpa, size, bound) = (self.job.gpa, self.job.size, bound(&self.job));
         let mut leaves = leaves(&self.job, &self.image);
         leaves.sort();
-        let (gpa, size) = (self.job.gpa, self.job.size);
+        leaves.retain(|l| l.0 < bound);
         let many = match self.r.below(60) {
             0 => 1024,
             1 => 1025,
@@ -262,7 +264,7 @@ impl Draft<'_> {
             self.job.ranges.push((first, last, o));
         }
         // Ranges that touch nothing, up to the number wanted.
-        while many >= 1024 && (self.job.ranges.len() as u64) < many && next + 0x2000 < LIMIT {
+        while many >= 1024 && (self.job.ranges.len() as u64) < many && next + 0x2000 < bound {
             let first = next + 0x1000;
             if first + 0xfff >= gpa && first < gpa + size {
                 next = gpa + size;
@@ -273,7 +275,7 @@ impl Draft<'_> {
             next = last + 1;
         }
         if self.r.percent(35) {
-            let room = LIMIT - (gpa + size);
+            let room = bound - (gpa + size);
             let unit = self.r.of(&[0x1000, 0x20_0000, 0x20_0000, 0x4000_0000, 0x4000_0000]);
             let o = match self.r.below(5) {
                 0 => room / unit * unit,
@@ -289,7 +291,7 @@ impl Draft<'_> {
 
     /// Where the way to an address ends, at the level or above it: the place among the words, and its level.
     fn end_of_way(&self, to: u64, level: usize) -> (usize, usize) {
-        let (mut table, mut l) = (self.nodes[0].table, 3);
+        let (mut table, mut l) = (self.nodes[0].table, top(&self.job));
         loop {
             let place = 512 * table + index(to, l);
             let e = self.image[place];
@@ -311,7 +313,7 @@ impl Draft<'_> {
                 Some(r) if r.2 >= span(level) as i64 && r.2 % span(level) as i64 == 0 => r.2 as u64,
                 _ => continue,
             };
-            if !self.r.percent(40) || a + offset > LIMIT - span(level) {
+            if !self.r.percent(40) || a + offset > bound(&self.job) - span(level) {
                 continue;
             }
             let to = a + offset;
@@ -352,9 +354,9 @@ impl Draft<'_> {
 
     /// A load that is refused, or one that a later load covers.
     fn strange(&mut self, here: u64) -> Load {
-        let (gpa, size) = (self.job.gpa, self.job.size);
+        let (gpa, size, bound) = (self.job.gpa, self.job.size, bound(&self.job));
         let end = gpa.wrapping_add(size);
-        let away = self.r.of(&[gpa.wrapping_sub(4096), end, end.wrapping_add(4096), 0, LIMIT, 1 << 63, u64::MAX - 4095]);
+        let away = self.r.of(&[gpa.wrapping_sub(4096), end, end.wrapping_add(4096), 0, bound, 1 << 63, u64::MAX - 4095]);
         match self.r.below(5) {
             0 => Load { gpa: here, data: vec![0x5a; self.r.of(&[1, 8, 4095, 4097, 8192, 512])] },
             1 => Load { gpa: away, data: vec![0x5a; self.r.of(&[1, 4095, 4097])] },
@@ -386,20 +388,21 @@ impl Draft<'_> {
     }
 
     fn damage_job(&mut self) {
+        let bound = bound(&self.job);
         let j = &mut self.job;
         let r = &mut *self.r;
         match r.below(14) {
-            0 => j.cr4 |= 0x1000,
+            0 => j.cr4 |= LA57,
             1 => j.cr3 = j.gpa + j.used + r.below(4096),
             2 => j.gpa += r.of(&[1, 8, 0x800]),
             3 => j.size += r.of(&[1, 8, 0x800]),
             4 => j.size = j.used - 4096,
-            5 => j.gpa = LIMIT - j.size + 4096,
-            6 => j.table_offset = r.of(&[1, 0x800, -0x1000, i64::MIN, i64::MAX, 1 << 48, -0x20_0000]),
+            5 => j.gpa = bound - j.size + 4096,
+            6 => j.table_offset = r.of(&[1, 0x800, -0x1000, i64::MIN, i64::MAX, bound as i64, -0x20_0000]),
             7 => j.ranges.reverse(),
             8 => j.ranges.push((j.gpa, j.gpa, 0x20_0000)),
-            9 => j.ranges.push((LIMIT, LIMIT, 0)),
-            10 => j.ranges.push((LIMIT - 1, LIMIT, 0)),
+            9 => j.ranges.push((bound, bound, 0)),
+            10 => j.ranges.push((bound - 1, bound, 0)),
             11 => {
                 if let Some(x) = j.ranges.last_mut() {
                     x.2 = -x.2;
@@ -419,7 +422,7 @@ impl Draft<'_> {
     }
 }
 
-/// A job: mostly good, some damaged. `large` is for trees of hundreds of tables.
+/// A job of four levels: mostly good, some damaged. `large` is for trees of hundreds of tables.
 pub fn job(r: &mut Random, large: bool) -> Job {
     let mut d = Draft::new(r);
     d.region(large);
@@ -432,14 +435,13 @@ pub fn job(r: &mut Random, large: bool) -> Job {
         d.damage_image();
     }
     if d.r.percent(30) {
-        // Every bit but the one for five levels.
-        d.job.cr4 = d.r.word() & !0x1000;
+        d.job.cr4 = d.r.word() & !LA57;
     }
     d.loads();
     if d.r.percent(4) {
-        let (gpa, size) = (d.job.gpa, d.job.size);
-        let low = d.job.cr3;
-        d.job.cr3 = d.r.of(&[gpa.wrapping_sub(1), gpa + size, gpa + size + 4095, 0, LIMIT, low | 1 << 52, low | 1 << 63, u64::MAX]);
+        let (gpa, end, low) = (d.job.gpa, d.job.gpa + d.job.size, d.job.cr3);
+        let bound = bound(&d.job);
+        d.job.cr3 = d.r.of(&[gpa.wrapping_sub(1), end, end + 4095, 0, bound, low | 1 << 52, low | 1 << 63, u64::MAX]);
     }
     if d.r.percent(10) {
         d.damage_job();

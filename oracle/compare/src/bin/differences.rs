@@ -80,9 +80,9 @@ fn entry_operations() -> u32 {
         ("E3", set(3, 1) == (kept, None)),
         ("E4", addr(1) == (kept, None)),
         ("E5", addr(1 << 52) == (kept, None)),
-        ("E6", at(1 << 48, 4) == (none, Some(1))),
+        ("E6", at(1 << 57, 5) == (none, Some(1))),
         ("E7", at(1 << 2, 6) == (none, far)),
-        ("E8", exports::mapping_size(4) == none),
+        ("E8", exports::mapping_size(4) == (0, 1 << 48) && exports::mapping_size(5) == none),
         ("E9", exports::set_entry(old, 4, 0) == kept),
         ("E10", contains()),
     ];

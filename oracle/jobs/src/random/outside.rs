@@ -4,9 +4,12 @@ use super::{Draft, Random};
 use crate::document::*;
 use crate::{Job, Load};
 
-/// A good job, changed in one to three ways.
+/// A good job, of five levels now and then, changed in one to three ways.
 pub fn outside(r: &mut Random) -> Job {
     let mut d = Draft::new(r);
+    if d.r.percent(15) {
+        d.job.cr4 = LA57;
+    }
     d.region(false);
     d.tree();
     d.ranges();
@@ -33,7 +36,7 @@ pub fn outside(r: &mut Random) -> Job {
 }
 
 impl Draft<'_> {
-    /// Offsets that are downward, past 2^48 or past 2^52, or lead two leaves together.
+    /// Offsets that are downward, lead to or past a bound, or lead two leaves together.
     fn stray_offset(&mut self) {
         let many = self.job.ranges.len() as u64;
         if many == 0 {
@@ -47,7 +50,7 @@ impl Draft<'_> {
         let new = match self.r.below(10) {
             0 | 1 => offset.wrapping_neg(),
             2 => -few,
-            3 => (LIMIT as i64).wrapping_sub(first),
+            3 => (bound(&self.job) as i64).wrapping_sub(first),
             4 => (1 << 48) + few,
             5 => (1 << 52) + few,
             6 => self.r.of(&[i64::MIN, i64::MAX, -1, -0x1000, first.wrapping_neg(), (-0x1000i64).wrapping_sub(first)]),
@@ -68,22 +71,22 @@ impl Draft<'_> {
             0 => -unit,
             1 => self.r.of(&[gpa.wrapping_neg(), (-0x1000i64).wrapping_sub(gpa), i64::MIN, i64::MAX]),
             2 => self.r.of(&[1, 0x800, 0x1800, 0x20_0800, -0x800]),
-            3 => (LIMIT as i64 - size + self.r.of(&[0, 0x1000, 0x20_0000])).wrapping_sub(gpa),
+            3 => (bound(&self.job) as i64 - size + self.r.of(&[0, 0x1000, 0x20_0000])).wrapping_sub(gpa),
             4 => (1 << 48) + self.r.of(&[0, 0x1000, 0x20_0000]),
             5 => (1 << 52) + self.r.of(&[0, 0x1000]),
             _ => self.r.word() as i64 & -0x1000,
         };
     }
 
-    /// Ranges that overlap, are out of order, empty, past 2^48 or over the region, and leaves that two of them touch.
+    /// Ranges that overlap, are out of order, empty, past the bound or over the region, and leaves that two of them touch.
     fn stray_ranges(&mut self) {
-        let (gpa, size) = (self.job.gpa, self.job.size);
+        let (gpa, size, bound) = (self.job.gpa, self.job.size, bound(&self.job));
         let o = (span(self.r.below(3) as usize) * self.r.within(1, 4)) as i64;
         let list = &mut self.job.ranges;
         let one = self.r.below(list.len() as u64) as usize;
         match self.r.below(8) {
             0 => list.reverse(),
-            1 => list.push((LIMIT - self.r.below(2), LIMIT, o)),
+            1 => list.push((bound - self.r.below(2), bound, o)),
             2 => list.push((gpa.wrapping_add(size / 2), gpa.wrapping_add(size), o)),
             3 => list.insert(0, (gpa, gpa.wrapping_add(size - (size != 0) as u64), o)),
             4 | 5 if !list.is_empty() => {
@@ -126,7 +129,7 @@ impl Draft<'_> {
             3 => self.job.used = size + self.r.of(&[0x800, 0x1000]),
             4 => (self.job.size, self.job.used) = (self.r.of(&[0, size]), 0),
             5 => self.job.size = 513 * 4096,
-            6 => self.carry(LIMIT - 0x1000 + few),
+            6 => self.carry(bound(&self.job) - 0x1000 + few),
             7 => self.carry(0u64.wrapping_sub(size + few)),
             8 => self.carry(gpa.wrapping_add(0x800)),
             9 => self.job.image = Some(self.r.of(&[0, used.saturating_sub(4096), used.saturating_sub(1)])),
@@ -167,7 +170,7 @@ impl Draft<'_> {
             return;
         }
         let (to, level, _) = self.r.of(&moved);
-        let stop = self.r.within(level as u64, 3) as usize;
+        let stop = self.r.within(level as u64, top(&self.job) as u64) as usize;
         let (at, _) = self.end_of_way(to, stop);
         let table = self.job.gpa.wrapping_add(4096 * self.r.below(self.job.size / 4096));
         let large = self.r.percent(60);
@@ -175,7 +178,7 @@ impl Draft<'_> {
             0 => table,
             1 => table.wrapping_add(self.job.table_offset as u64),
             2 => to,
-            _ => self.r.word() & (LIMIT - 1),
+            _ => self.r.word() & (bound(&self.job) - 1),
         };
         self.image[at] = self.flags(large) | (address & FIELD);
     }
@@ -183,7 +186,7 @@ impl Draft<'_> {
     fn stray_cpu(&mut self) {
         let Job { gpa, size, used, .. } = self.job;
         match self.r.below(6) {
-            0 => self.job.cr4 |= 0x1000,
+            0 => self.job.cr4 ^= LA57,
             1 => self.job.cr3 = gpa.wrapping_add(size),
             2 => self.job.cr3 |= 1 << self.r.within(48, 63),
             _ => self.job.cr3 = gpa.wrapping_add(used),

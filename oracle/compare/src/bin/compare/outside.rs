@@ -1,7 +1,7 @@
 //! Jobs outside the shared domain, sorted by how the two differ.
 
-use compare::classes::{classes, recorded, Class};
-use compare::{in_shared_domain, ours};
+use compare::classes::{classes, recorded, Class, FIVE, NONE_BROKEN};
+use compare::{in_shared_domain, ours, shared_load_differs};
 use jobs::random::{outside, Random};
 use jobs::{print, run, show};
 use std::collections::BTreeMap;
@@ -12,8 +12,12 @@ fn takes(c: &Class) -> bool {
 }
 
 /// The rows that explain a class: rows of that class; or rows where the original does not look at what we refuse, and then what it
-/// does with such a job; or rows of another rule with that number; or the rows of what else takes the job out of the domain.
+/// does with such a job; or rows of another rule with that number; or the rows of what else takes the job out of the domain. Five
+/// levels explain one panic, whatever our number is: the original looks at them before all that.
 fn explained(c: &Class, rows: &[(String, Class)]) -> Option<String> {
+    if c.rule == NONE_BROKEN {
+        return None;
+    }
     let list = |keep: &dyn Fn(&Class) -> bool| {
         let names: Vec<&str> = rows.iter().filter(|r| keep(&r.1)).map(|r| r.0.as_str()).collect();
         (!names.is_empty()).then(|| names.join(" "))
@@ -23,11 +27,13 @@ fn explained(c: &Class, rows: &[(String, Class)]) -> Option<String> {
     let unseen = || list(&|r| r.ours == c.ours && r.rule == c.rule && r.also.is_empty() && takes(r));
     let alike = || Some(format!("as {}", list(&|r| r.ours == c.ours && r.also.is_empty() && r.theirs == c.theirs)?));
     let other = || {
-        let each = c.also.iter().map(|a| list(&|r| r.ours == "build: ours 0" && r.also == [*a]));
+        let fits = |r: &Class, a| r.ours == "build: ours 0" && r.also == [a] && (a != FIVE || r.theirs == c.theirs);
+        let each = c.also.iter().map(|a| list(&|r| fits(r, *a)));
         each.collect::<Option<Vec<_>>>().filter(|l| !l.is_empty()).map(|l| format!("as {}", l.join(" ")))
     };
     let same = list(&|r| r == c).or_else(|| list(&|r| *r == plain));
-    same.or_else(|| Some(format!("{}, then {}", unseen()?, next()?))).or_else(alike).or_else(other)
+    let first = || c.also.contains(&FIVE).then(other).flatten();
+    same.or_else(first).or_else(|| Some(format!("{}, then {}", unseen()?, next()?))).or_else(alike).or_else(other)
 }
 
 /// The number of classes that no row explains; `only` shows that job instead.
@@ -54,10 +60,11 @@ pub fn compare(file: &str, count: u64, seed: u64, only: Option<u64>) -> u64 {
             return 1;
         }
         let differ = classes(&j, &mine, &theirs);
-        if in_shared_domain(&j, &mine) {
-            if differ.is_empty() {
-                continue;
-            }
+        let shared = in_shared_domain(&j, &mine);
+        if shared && differ.is_empty() {
+            continue;
+        }
+        if shared || shared_load_differs(&j, &mine, &theirs) {
             println!("job {own}: a difference in the shared domain");
             return 1;
         }
