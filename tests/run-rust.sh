@@ -34,6 +34,7 @@ step "C program" c_program
 if [ -e "${ARCHWEND_SHARED:-../shared}/docs/src/src/page_table.rs" ]; then
     step "differences" oracle/differences.sh
     step "comparison" oracle/compare.sh "${JOBS:-1000}" "${SEED:-1}"
+    FIVE=1 step "five levels" oracle/compare.sh "${JOBS:-1000}" "${SEED:-1}"
     OUTSIDE=1 step "jobs outside the shared domain" oracle/compare.sh "${JOBS:-1000}" "${SEED:-1}"
     step "entries' comparison" oracle/entries.sh "${CALLS:-20000}" "${SEED:-1}"
 else

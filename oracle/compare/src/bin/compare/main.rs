@@ -1,4 +1,5 @@
 //! compare COUNT SEED: random jobs through both, until COUNT of them were in the shared domain.
+//! compare COUNT SEED five: jobs of it as five-level jobs, until COUNT of them were compared.
 //! compare COUNT SEED FILE [JOB]: random jobs until COUNT of them were outside of it, sorted by how the two differ, each class with
 //! the rows of FILE that explain it; with JOB that job alone, and both answers.
 
@@ -7,6 +8,7 @@ use jobs::random::{job, Random};
 use jobs::{print, run, show};
 use std::collections::BTreeMap;
 
+mod five;
 mod outside;
 
 /// How many in this many jobs have hundreds of tables.
@@ -19,8 +21,11 @@ fn main() {
     let build = if env!("OVERFLOW") == "checks" { "checks overflow" } else { "wraps" };
     jobs::quiet();
     println!("page_table.rs {} in a build that {build}; seed {seed}", original::PAGE_TABLE);
-    if let Some(file) = args.get(3) {
-        let bad = outside::compare(file, count, seed, args.get(4).and_then(|s| s.parse().ok()));
+    if let Some(what) = args.get(3) {
+        let bad = match what.as_str() {
+            "five" => five::compare(build, count, seed),
+            file => outside::compare(file, count, seed, args.get(4).and_then(|s| s.parse().ok())),
+        };
         std::process::exit((bad != 0) as i32);
     }
     let mut builds: BTreeMap<u64, u64> = BTreeMap::new();
