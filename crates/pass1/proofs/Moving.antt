@@ -27,7 +27,7 @@ use Rattle.moved.specs.View.{leaf, leavesOf, keptStep, KeptIn, Keeps, Held}
 use Rattle.moved.specs.declared.Store.{Store}
 use Rattle.moved.specs.declared.Kept.{Kept}
 use Rattle.moved.specs.declared.Kept.the-variants as kept
-use Rattle.ranges.specs.Lists.{saysOf, Looks, LookupFits}
+use Rattle.ranges.specs.Lists.{saysOf, says, Looks, LookupFits}
 use Rattle.ranges.specs.declared.Shift.{Shift}
 use Rattle.ranges.specs.declared.Shift.the-variants.{By, Stay}
 use Rattle.pass1.specs.declared.Plan.{Plan}
@@ -47,13 +47,12 @@ outcome-stop m xs w h = rw (ne-eqb (w .refusal .number) 0 h)
 
 -- ---- the task
 
-pub looks-fit : (ws : List ℕ) (p : Plan) (x : Spot) → TaskFits ws p x → LookupFits ws (p .old) (x .level) (x .va)
+pub looks-fit : (ws : List ℕ) (p : Plan) (x : Spot) → TaskFits ws p x → LookupFits ws (p .old) (x .size) (x .va)
 looks-fit ws p x h =
     let g = h .plan .geometry in
     let r = h .plan .old in
     record {
-      level = omega (arith, h .level, g .top);
-      leaf = omega (arith, h .lies .low, g .word);
+      leaf = omega (arith, h .size, h .lies .low, g .word);
       region = omega (arith, r .end, g .field);
       some = omega (arith, r .some);
       list = h .list;
@@ -63,15 +62,19 @@ module _ (p : Plan) (ws : List ℕ) (x : Spot) where
   pub told-absent : present (x .entry) ≡ false → Told ws p x Skip
   told-absent h n = act-absent (planOf p ws n) (x .level) (x .va) (x .entry) h
 
-  module _ (here : present (x .entry) ≡ true) (points : pointer (x .level) (x .entry) ≡ false)
-      (s : Shift) (says : Looks ws (p .old) (p .offset) (x .level) (x .va) s) where
+  module _ (here : present (x .entry) ≡ true) (points : pointer (x .level) (x .entry) ≡ false) (size : x .size ≡ span (x .level))
+      (s : Shift) (looks : Looks ws (p .old) (p .offset) (x .size) (x .va) s) where
+    decided : decide (deciding (p .old) (p .offset) (rangesOf ws)) (x .level) (x .va) ≡ saysOf s
+    unfolding decide
+    decided = sym (looks ∙ ap (λ (n : ℕ). says (p .old) (p .offset) (x .va) n (rangesOf ws)) size)
+
     pub told-stay : s ≡ Stay → Told ws p x Skip
-    told-stay q n = act-stay (planOf p ws n) (x .level) (x .va) (x .entry) here points (sym says ∙ ap saysOf q)
+    told-stay q n = act-stay (planOf p ws n) (x .level) (x .va) (x .entry) here points (decided ∙ ap saysOf q)
 
     pub told-by : (o : ℕ) → s ≡ By o → Told ws p x (Leaf o)
     unfolding act kind kindOf kindAct leafAct
     told-by o q n =
-        let d : decide (deciding (p .old) (p .offset) (rangesOf ws)) (x .level) (x .va) ≡ shift o = sym says ∙ ap saysOf q in
+        let d : decide (deciding (p .old) (p .offset) (rangesOf ws)) (x .level) (x .va) ≡ shift o = decided ∙ ap saysOf q in
         rw (here, points, d)
 
 -- ---- a leaf that moves by o

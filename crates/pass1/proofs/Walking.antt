@@ -67,8 +67,9 @@ pub lies-root : (g : Geometry) → Lies g (suc (g .top)) 0
 lies-root g = record { whole = zero-mod (span (suc (g .top))); low = omega arith }
 
 -- what was read at a word is at hand
-pub at-hand : (n : ℕ) (g : Geometry) (x : Spot) (m : Mem) (k l a : ℕ) → x ≡ spotIn m k l a → 8 * k + 8 ≤ n → l ≤ g .top → Lies g l a → AtHand n g x
-at-hand n g x m k l a at f h d = subst (AtHand n g) (sym at) (record { fits = f; level = h; lies = d })
+pub at-hand : (n : ℕ) (g : Geometry) (x : Spot) (m : Mem) (k l s a : ℕ) → x ≡ spotIn m k l s a → 8 * k + 8 ≤ n → l ≤ g .top → s ≡ span l
+    → Lies g l a → AtHand n g x
+at-hand n g x m k l s a at f h e d = subst (AtHand n g) (sym at) (record { fits = f; level = h; size = e; lies = d })
 
 -- ---- an entry and what is below
 
@@ -140,7 +141,7 @@ turnOf ws p n t l a = λ i s. visit (planOf p ws n) (λ b t′ s″. walkTable (
 
 -- entry i, where the memory is m
 abbrev pub entryAt : Mem → ℕ → ℕ → ℕ → ℕ → Spot
-entryAt m t l a i = spotIn m (slot t i) l (a + i * span l)
+entryAt m t l a i = spotIn m (slot t i) l (span l) (a + i * span l)
 
 -- what is left from entry i on, with the bytes, the scratch and the state as they are now, gives the whole
 pub record Turning (ws : List ℕ) (p : Plan) (t l a : ℕ) (out₀ xs₀ : List ℕ) (w₀ : Walk) (out xs : List ℕ) (w : Walk) (i : ℕ) : Type 0 where

@@ -16,8 +16,8 @@ says-injective (By a) Stay e = cc
 says-injective Stay (By b) e = cc
 says-injective Stay Stay e = refl
 
-pub one-lookup : (ws : List ℕ) (g : Region) (o l a : ℕ) (r s : Shift) → Looks ws g o l a r → Looks ws g o l a s → r ≡ s
-one-lookup ws g o l a r s p q = says-injective r s (p ∙ sym q)
+pub one-lookup : (ws : List ℕ) (g : Region) (o n a : ℕ) (r s : Shift) → Looks ws g o n a r → Looks ws g o n a s → r ≡ s
+one-lookup ws g o n a r s p q = says-injective r s (p ∙ sym q)
 
 pub one-list-valid : (ws : List ℕ) (m : Geometry) (g : Region) (r s : Bool) → ListValid ws m g r → ListValid ws m g s → r ≡ s
 one-list-valid ws m g r s p q = p ∙ sym q

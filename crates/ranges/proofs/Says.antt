@@ -11,7 +11,7 @@ use borrow.Author.Tests.{lt-ltb, le-ltb}
 use Rattle.definitions.specs.Inputs.{Range}
 use Rattle.definitions.specs.Ranges.{rangesOk, touches, joined, rangeOf, deciding, touching, byOffset, verdict, Verdict, stay}
 use Rattle.definitions.specs.declared.Region.{Region}
-use Rattle.ranges.specs.Lists.{joins}
+use Rattle.ranges.specs.Lists.{joins, says}
 use Rattle.ranges.proofs.Threes.{ok-first, ok-rest}
 
 -- ---- without the region
@@ -98,9 +98,6 @@ module _ (limit : ℕ) (g : Region) (a n : ℕ) where
           rw (lt-ltb (x .first) (q .first) (omega arith))
 
 -- ---- the ranges that decide: with the region joined where its offset is not 0
-
-abbrev pub says : Region → ℕ → ℕ → ℕ → List Range → Verdict
-says g o a n rs = verdict n (touching a n (deciding g o rs))
 
 -- where no range touches, the region decides alone
 abbrev pub alone : ℕ → ℕ → Bool → Verdict

@@ -4,7 +4,7 @@
 use Rattle.pass1.proofs.Moving.{Away, moves-odd, moves-past, moves-in, moves-clash, moves-full, new-pages}
 use Rattle.definitions.specs.Ranges.{shifted}
 use Rattle.definitions.specs.Geometry.{span}
-use Rattle.definitions.proofs.Geometry.{span-mono}
+use Rattle.definitions.proofs.Geometry.{span-pos, span-mono}
 use Prim.Native.Nat.{ℕ, _+_, _%_, _≤_, _<_}
 use native.Mathlib.Omega.{arith}
 use mathlib.Core.Path.{_≡_, sym, ap, _∙_}
@@ -12,12 +12,12 @@ use borrow.Author.Needs.{needs}
 use Rattle.pass1.proofs.move_leaf.Statement.{statement}
 use Rattle.pass1.proofs.move_leaf.Tie as tie
 
--- ---- the places, seen from the call of span_of
-abbrev start : tie.After-span-of → tie.Start
-start c = c .before .before .before
+-- ---- the places, seen from the first test
+abbrev start : tie.After-slice-known2 → tie.Start
+start c = c .before .before
 
-abbrev sized : tie.After-struct-known → tie.After-span-of
-sized c = c .before .before .before
+abbrev tested : tie.After-struct-known → tie.After-slice-known2
+tested c = c .before .before .before
 
 abbrev past₂ : tie.After-with-address → tie.After-struct-known
 past₂ c = c .before .before
@@ -33,8 +33,14 @@ abbrev stored : tie.After-write-word → tie.After-kept
 stored c = c .before .before .before
 
 -- ---- what the tests and calls gave
-remainder : (c : tie.After-span-of) → let a = start c .args in a .offset % c .span-of .result ≡ a .offset % span (a .spot .level)
-remainder c = ap (λ (n : ℕ). start c .args .offset % n) (c .span-of .ensures .0)
+size-is : (c : tie.After-slice-known2) → let x = start c .args .spot in x .size ≡ span (x .level)
+size-is c = start c .pre .hand .size
+
+some : (c : tie.After-slice-known2) → 0 < start c .args .spot .size
+some c = omega (arith, size-is c, span-pos (start c .args .spot .level))
+
+remainder : (c : tie.After-slice-known2) → let a = start c .args in a .offset % a .spot .size ≡ a .offset % span (a .spot .level)
+remainder c = ap (λ (n : ℕ). start c .args .offset % n) (size-is c)
 
 odd : (c : tie.Then1) → let a = start (c .before) .args in a .offset % span (a .spot .level) ≡ 0 → ⊥
 odd c h = c .if1 .taken (remainder (c .before) ∙ h)
@@ -43,19 +49,19 @@ whole : (c : tie.Else1) → let a = start (c .before) .args in a .offset % span 
 whole c = sym (remainder (c .before)) ∙ c .if1 .left
 
 -- an entry's addresses are not more than lie below the bound
-below : (c : tie.After-struct-known) → sized c .span-of .result ≤ start (sized c) .args .geometry .limit
+below : (c : tie.After-struct-known) → let a = start (tested c) .args in a .spot .size ≤ a .geometry .limit
 below c =
-    let p = start (sized c) .pre in
-    let l = start (sized c) .args .spot .level in
-    omega (arith, sized c .span-of .ensures .0, span-mono l _ (p .hand .level), p .geometry .spans)
+    let p = start (tested c) .pre in
+    let l = start (tested c) .args .spot .level in
+    omega (arith, size-is (tested c), span-mono l _ (p .hand .level), p .geometry .spans)
 
 far : (c : tie.Then2)
-    → let a = start (sized (c .before)) .args in a .geometry .limit < shifted (a .spot .va) (a .offset) + span (a .spot .level)
+    → let a = start (tested (c .before)) .args in a .geometry .limit < shifted (a .spot .va) (a .offset) + span (a .spot .level)
 unfolding shifted
-far c = omega (arith, sized (c .before) .span-of .ensures .0, c .before .before .wrapping-add-u64 .ensures, c .if2 .taken)
+far c = omega (arith, size-is (tested (c .before)), c .before .before .wrapping-add-u64 .ensures, c .if2 .taken)
 
 away : (c : tie.After-with-address)
-    → let a = start (sized (past₂ c)) .args in
+    → let a = start (tested (past₂ c)) .args in
     Away (a .geometry) (a .spot) (a .offset) (past₂ c .before .wrapping-add-u64 .result) (c .with-address .result)
 unfolding shifted
 away c =
@@ -63,12 +69,15 @@ away c =
     let to = s .before .wrapping-add-u64 .ensures in
     record {
       whole = whole (s .before .before);
-      low = omega (arith, sized s .span-of .ensures .0, to, below s, c .before .if2 .left);
+      low = omega (arith, size-is (tested s), to, below s, c .before .if2 .left);
       to = to;
       word = c .with-address .ensures;
     }
 
 -- ---- the needs
+rem-if1 : tie.Need-rem-if1
+rem-if1 c = omega (arith, some c)
+
 returns : tie.Need-returns
 returns c = moves-odd (start (c .before .before) .pre .held) (odd (c .before)) (c .with-offset .ensures)
 
@@ -78,16 +87,17 @@ sub-if2 c = below c
 returns-2 : tie.Need-returns-2
 returns-2 c =
     let s = c .before .before in
-    moves-past (start (sized s) .pre .held) (whole (s .before .before)) (far (c .before)) (c .with-offset2 .ensures)
+    moves-past (start (tested s) .pre .held) (whole (s .before .before)) (far (c .before)) (c .with-offset2 .ensures)
 
 with-address-requires : tie.Need-with-address-requires
 unfolding shifted
 with-address-requires c κs =
     let s = c .before in
-    let a = start (sized s) .args in
-    let p = start (sized s) .pre in
+    let a = start (tested s) .args in
+    let p = start (tested s) .pre in
     let pages = new-pages (a .spot .level) (a .spot .va) (a .offset) (p .hand .lies .whole) (whole (s .before .before)) in
-    (ap (λ (n : ℕ). n % 4096) (s .before .wrapping-add-u64 .ensures) ∙ pages, omega (arith, c .if2 .left, below s, p .geometry .field))
+    let aligned = ap (λ (n : ℕ). n % 4096) (s .before .wrapping-add-u64 .ensures) ∙ pages in
+    (aligned, omega (arith, some (tested s), c .if2 .left, below s, p .geometry .field))
 
 remember-requires : tie.Need-remember-requires
 remember-requires c κs = search needs
@@ -101,16 +111,16 @@ returns-3 c =
 returns-4 : tie.Need-returns-4
 returns-4 c =
     let k = c .before .before .before in
-    moves-clash (away (set k)) (asked k .remember .ensures) (start (sized (past₂ (set k))) .pre .held) (c .before .enum-told .given .1) (c .at .ensures)
+    moves-clash (away (set k)) (asked k .remember .ensures) (start (tested (past₂ (set k))) .pre .held) (c .before .enum-told .given .1) (c .at .ensures)
 
 returns-5 : tie.Need-returns-5
 returns-5 c =
     let k = c .before .before .before in
-    moves-full (away (set k)) (asked k .remember .ensures) (start (sized (past₂ (set k))) .pre .held) (c .before .enum-told2 .given .1) (c .at2 .ensures)
+    moves-full (away (set k)) (asked k .remember .ensures) (start (tested (past₂ (set k))) .pre .held) (c .before .enum-told2 .given .1) (c .at2 .ensures)
 
 pub move-leaf-spec : {M : Type 1} → statement M
 move-leaf-spec =
     tie.close
-    (tie.spec (search needs) (search needs) (search needs) returns (search needs) sub-if2 (search needs) returns-2
+    (tie.spec rem-if1 (search needs) returns (search needs) sub-if2 (search needs) returns-2
     with-address-requires remember-requires (search needs) (search needs) (search needs) (search needs) (search needs)
     (search needs) (search needs) (search needs) returns-3 (search needs) returns-4 (search needs) returns-5)

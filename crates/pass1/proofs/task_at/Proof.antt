@@ -3,6 +3,7 @@
 -- Assumes nothing.
 use Rattle.pass1.proofs.Moving.{looks-fit, told-absent, told-stay, told-by}
 use Rattle.definitions.specs.Entry.{present, pointer}
+use Rattle.definitions.specs.Geometry.{span}
 use borrow.Author.Tests.{not-true, not-false}
 use mathlib.Core.Bool.{true, false}
 use mathlib.Core.Path.{_≡_, sym, _∙_}
@@ -27,6 +28,9 @@ here c = sym (c .before .is-present .ensures) ∙ not-false _ (c .if1 .left)
 points : (c : tie.Else2) → let x = start (past₁ c) .args .spot in pointer (x .level) (x .entry) ≡ false
 points c = sym (c .before .points-to-table .ensures) ∙ c .if2 .left
 
+sized : (c : tie.Else2) → let x = start (past₁ c) .args .spot in x .size ≡ span (x .level)
+sized c = start (past₁ c) .pre .size
+
 -- ---- the needs
 returns : tie.Need-returns
 returns c =
@@ -44,14 +48,14 @@ returns-3 c =
     let l = c .before .before in
     let e = past₂ l in
     let a = start (past₁ e) .args in
-    told-stay (a .plan) (a .ranges .now) (a .spot) (here (past₁ e)) (points e) _ (l .lookup .ensures) (c .enum-told .given .1)
+    told-stay (a .plan) (a .ranges .now) (a .spot) (here (past₁ e)) (points e) (sized e) _ (l .lookup .ensures) (c .enum-told .given .1)
 
 returns-4 : tie.Need-returns-4
 returns-4 c =
     let l = c .before .before .before in
     let e = past₂ l in
     let a = start (past₁ e) .args in
-    told-by (a .plan) (a .ranges .now) (a .spot) (here (past₁ e)) (points e) _ (l .lookup .ensures) _ (c .before .said .given .1)
+    told-by (a .plan) (a .ranges .now) (a .spot) (here (past₁ e)) (points e) (sized e) _ (l .lookup .ensures) _ (c .before .said .given .1)
 
 pub task-at-spec : {M : Type 1} → statement M
 task-at-spec =
