@@ -4,9 +4,10 @@
 use Rattle.pass1.proofs.Moving.{Away, moves-odd, moves-past, moves-in, moves-clash, moves-full, new-pages}
 use Rattle.definitions.specs.Ranges.{shifted}
 use Rattle.definitions.specs.Geometry.{span}
-use Rattle.definitions.proofs.Geometry.{span-pos, span-mono}
-use Prim.Native.Nat.{ℕ, _+_, _%_, _≤_, _<_}
+use Rattle.definitions.proofs.Geometry.{span-pos, span-mono, span-mask}
+use Prim.Native.Nat.{ℕ, _+_, _-_, _%_, _≤_, _<_}
 use native.Mathlib.Omega.{arith}
+use lib.Bits.{bitAnd}
 use mathlib.Core.Path.{_≡_, sym, ap, _∙_}
 use borrow.Author.Needs.{needs}
 use Rattle.pass1.proofs.move_leaf.Statement.{statement}
@@ -39,8 +40,8 @@ size-is c = start c .pre .hand .size
 some : (c : tie.After-slice-known2) → 0 < start c .args .spot .size
 some c = omega (arith, size-is c, span-pos (start c .args .spot .level))
 
-remainder : (c : tie.After-slice-known2) → let a = start c .args in a .offset % a .spot .size ≡ a .offset % span (a .spot .level)
-remainder c = ap (λ (n : ℕ). start c .args .offset % n) (size-is c)
+remainder : (c : tie.After-slice-known2) → let a = start c .args in bitAnd (a .offset) (a .spot .size - 1) ≡ a .offset % span (a .spot .level)
+remainder c = let a = start c .args in ap (λ (n : ℕ). bitAnd (a .offset) (n - 1)) (size-is c) ∙ span-mask (a .spot .level) (a .offset)
 
 odd : (c : tie.Then1) → let a = start (c .before) .args in a .offset % span (a .spot .level) ≡ 0 → ⊥
 odd c h = c .if1 .taken (remainder (c .before) ∙ h)
@@ -75,8 +76,8 @@ away c =
     }
 
 -- ---- the needs
-rem-if1 : tie.Need-rem-if1
-rem-if1 c = omega (arith, some c)
+sub-if1 : tie.Need-sub-if1
+sub-if1 c = omega (arith, some c)
 
 returns : tie.Need-returns
 returns c = moves-odd (start (c .before .before) .pre .held) (odd (c .before)) (c .with-offset .ensures)
@@ -121,6 +122,6 @@ returns-5 c =
 pub move-leaf-spec : {M : Type 1} → statement M
 move-leaf-spec =
     tie.close
-    (tie.spec rem-if1 (search needs) returns (search needs) sub-if2 (search needs) returns-2
+    (tie.spec sub-if1 (search needs) returns (search needs) sub-if2 (search needs) returns-2
     with-address-requires remember-requires (search needs) (search needs) (search needs) (search needs) (search needs)
     (search needs) (search needs) (search needs) returns-3 (search needs) returns-4 (search needs) returns-5)
