@@ -15,7 +15,7 @@ use Rattle.definitions.specs.Geometry.{rootHeight, span}
 use Rattle.definitions.specs.Entry.{leafFlags, translate}
 use Rattle.definitions.specs.Inputs.{Job, nowhere, Built}
 use Rattle.definitions.specs.Ranges.{kind, movedRegion, tableAt, usedTables}
-use Rattle.definitions.specs.Build.{geometryOf, root, planOf, build, refused, jobOf, outputBytes}
+use Rattle.definitions.specs.Build.{fiveBit, geometryOf, root, planOf, build, refused, jobOf, outputBytes}
 use Rattle.definitions.specs.Load.{Loaded, loaded, load}
 use Rattle.definitions.specs.Walk.{End, nothing, wild, inLeaf, reads, walk}
 use Rattle.definitions.specs.Demand.{Proper, Walked, before, after, readsAfter, IsRead, Reached, Moves, MovedBy, Stays, Lands, Clear, entryBefore}
@@ -28,7 +28,7 @@ use Rattle.definitions.specs.declared.Place.{Place}
 use Rattle.definitions.specs.declared.Region.{Region}
 use Rattle.definitions.specs.declared.Report.{Report}
 use Rattle.definitions.proofs.Words.{Bytes}
-use Rattle.definitions.proofs.Cr4.{bitOf, withCr4, five-walked, four-walked, by-geometry, one-bit}
+use Rattle.definitions.proofs.Cr4.{withCr4, five-walked, four-walked, by-geometry, one-bit}
 use Rattle.definitions.proofs.Build.{job-proper, output-refused}
 use Rattle.definitions.proofs.LoadEnds.{PutIn, LoadEnds, load-ends, put-length, put-inside, put-elsewhere}
 use Rattle.demands.proofs.Exact.{exact, accepted-iff}
@@ -114,24 +114,24 @@ abbrev pub readsIn : Call → List ℕ → ℕ → List ℕ
 readsIn c bytes a = reads (kind (newRegion c)) (heightOf c) (wordsOf bytes) (rootOf c) a
 
 -- ---- the levels, by bit 0x1000 of cr4: a walk reads at most so many tables (walk-short), and these addresses are walked
-pub five-levels :
+pub walked-five :
     (c : Call)
-    → bitOf (c .cr4) ≡ 1
+    → fiveBit (c .cr4) ≡ 1
     → (heightOf c ≡ 5) × ((a : ℕ) → Walked (asked c) a ↔ (a < 2 ^ 57))
 unfolding jobOf
-five-levels c = five-walked (asked c)
+walked-five c = five-walked (asked c)
 
-pub four-levels :
+pub walked-four :
     (c : Call)
-    → ¬ (bitOf (c .cr4) ≡ 1)
+    → ¬ (fiveBit (c .cr4) ≡ 1)
     → (heightOf c ≡ 4) × ((a : ℕ) → Walked (asked c) a ↔ (a < 2 ^ 48))
 unfolding jobOf
-four-levels c = four-walked (asked c)
+walked-four c = four-walked (asked c)
 
 -- no other bit of cr4 changes what is left: of a job, and of the same job with another cr4
 pub build-by-bit :
     (j : Job) (cr4 : ℕ) (report report′ output output′ scratch scratch′ : List ℕ)
-    → bitOf (j .cr4) ≡ bitOf cr4
+    → fiveBit (j .cr4) ≡ fiveBit cr4
     → Answers j report output scratch
     → Answers (withCr4 j cr4) report′ output′ scratch′
     → (report ≡ report′) × (output ≡ output′) × (scratch ≡ scratch′)
@@ -145,7 +145,7 @@ build-by-bit j cr4 report report′ output output′ scratch scratch′ bit a b 
 
 pub load-by-bit :
     (cr4 cr4′ : ℕ) (r : Region) (image : List ℕ) (gpa : ℕ) (page : List ℕ) (n n′ : ℕ) (after after′ : List ℕ)
-    → bitOf cr4 ≡ bitOf cr4′
+    → fiveBit cr4 ≡ fiveBit cr4′
     → LoadsPage cr4 r image gpa page n after
     → LoadsPage cr4′ r image gpa page n′ after′
     → (n ≡ n′) × (after ≡ after′)
