@@ -98,8 +98,8 @@ fn rule(job: &Job, number: u64) -> &'static str {
     let (gpa, size) = (job.gpa as i128, job.size as i128);
     let to = gpa + job.table_offset as i128;
     let any = |bad: &dyn Fn(&(u64, u64, i64)) -> bool| job.ranges.iter().any(bad);
-    let rules: &[(bool, &str)] = match number {
-        1 => &[
+    let rules: Vec<(bool, &str)> = match number {
+        1 => vec![
             (job.gpa % 4096 != 0, "gpa"),
             (job.size % 4096 != 0, "size"),
             (job.used % 4096 != 0, "used"),
@@ -108,15 +108,15 @@ fn rule(job: &Job, number: u64) -> &'static str {
             (job.size > 512 * 4096, "many"),
             (gpa + size > bound, PAST),
         ],
-        7 => &[(job.table_offset % 4096 != 0, "no whole pages"), (to < 0, "below 0"), (to + size > bound, PAST)],
-        8 => &[
+        7 => vec![(job.table_offset % 4096 != 0, "no whole pages"), (to < 0, "below 0"), (to + size > bound, PAST)],
+        8 => vec![
             (job.ranges.len() > 1024, "many"),
             (any(&|r| r.0 > r.1), "first above last"),
             (any(&|r| r.1 as i128 >= bound), PAST),
             (any(&|r| r.0 < job.gpa + job.size && r.1 >= job.gpa), "over the region"),
             (job.ranges.windows(2).any(|w| w[1].0 <= w[0].1), "not ascending"),
         ],
-        _ => &[(true, "")],
+        _ => vec![(true, "")],
     };
     rules.iter().find(|r| r.0).map_or(NONE_BROKEN, |r| r.1)
 }

@@ -93,10 +93,19 @@ fn refused(e: Error) -> (u64, Option<(u64, u64, i64)>) {
     }
 }
 
+/// Whether the original can be asked: of more than isize::MAX bytes a newer `vec!` panics, and an older one ends the program.
+pub fn can_run(job: &Job) -> bool {
+    let length = job.image.unwrap_or(job.used) as usize;
+    length <= isize::MAX as usize || std::alloc::Layout::array::<u8>(length).is_err()
+}
+
 /// Runs a job through the original.
 pub fn run(job: &Job) -> Answer {
     let mut loads = Vec::new();
     original::take_warnings();
+    if !can_run(job) {
+        return Answer { loads, built: Built::Panic("not asked".to_string()) };
+    }
     let length = job.image.unwrap_or(job.used);
     let mut b = match catch_unwind(|| PageTableRelocationBuilder::new(job.gpa, job.size, length, 0, Vtl::Vtl0)) {
         Ok(b) => b,

@@ -4,7 +4,7 @@
 use compare::classes::{recorded, WHO};
 use compare::entries::{self, exports};
 use compare::Ours;
-use jobs::{run, show, Answer, Built};
+use jobs::{can_run, run, show, Answer, Built};
 use original::hv_defs::Vtl;
 use original::page_table::PageTableRelocationBuilder;
 use std::panic::{catch_unwind, AssertUnwindSafe};
@@ -38,13 +38,14 @@ fn main() {
     let record = args.iter().any(|a| a == "record");
     jobs::quiet();
     let mut failed = 0;
-    let mut cases = 0;
+    let (mut cases, mut left_out) = (0, 0);
     for case in recorded(&args[1]) {
         cases += 1;
         let (input, expected) = (&case.input, &case.expected);
         let mut got = expected.clone();
         got.insert("ours", our_line(&case.ours()));
         got.insert(THIS, line(&run(&case.job)));
+        left_out += !can_run(&case.job) as u32;
         if record {
             print!("{input}");
             WHO.iter().for_each(|k| println!("{k} {}", got.get(*k).map_or("", |s| s)));
@@ -59,7 +60,7 @@ fn main() {
     }
     if !record {
         failed += entry_operations();
-        println!("differences ({THIS}): {cases} inputs and the entry operations run, {failed} not as recorded");
+        println!("differences ({THIS}): {cases} inputs and the entry operations run, {failed} not as recorded, {left_out} not asked of the original");
     }
     std::process::exit((failed != 0) as i32);
 }

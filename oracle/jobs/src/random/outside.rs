@@ -164,7 +164,7 @@ impl Draft<'_> {
         moved.retain_mut(|(a, level, _)| {
             let hit = self.job.ranges.iter().find(|r| r.0 < *a + span(*level) && r.1 >= *a);
             *a = a.wrapping_add(hit.map_or(0, |r| r.2 as u64));
-            hit.is_some_and(|r| r.2.unsigned_abs() >= span(*level) && *a % span(*level) == 0)
+            hit.map_or(false, |r| r.2.unsigned_abs() >= span(*level) && *a % span(*level) == 0)
         });
         if moved.is_empty() {
             return;

@@ -31,7 +31,10 @@ fn raised(word: u64, by: u64) -> u64 {
 /// Why one more table would change the answer, if it would.
 fn stopper(job: &Job, image: &[u64]) -> Option<&'static str> {
     let Job { gpa, size, .. } = *job;
-    let Some(before) = gpa.checked_sub(4096) else { return Some("no page before the region") };
+    let before = match gpa.checked_sub(4096) {
+        Some(before) => before,
+        None => return Some("no page before the region"),
+    };
     let moved = before + job.table_offset as u64;
     let leads = |a: u64| a == before || (a == moved && a.wrapping_sub(gpa) >= size);
     let pointers = entries(job, image).into_iter().filter(|e| is_pointer(image[e.2], e.1));
