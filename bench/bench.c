@@ -1,17 +1,17 @@
-/* Times the proved build: a full region, and how the time grows with the moved leaves. */
+/* Times the proved build, of a full region and as it grows with the moved leaves, and the comparison as it grows with the images. */
 #include "../include/archwend.h"
 #include <stdio.h>
 #include <stdlib.h>
 #include <string.h>
 #include <time.h>
 
-enum { PAGE = 4096, TABLES = 512, ROOM = 3 * 131072 };
+enum { PAGE = 4096, TABLES = 512, ROOM = 3 * 131072, LARGEST = TABLES * PAGE };
 
 /* above all that the one table of level 1 maps */
 static const uint64_t gpa = 0x100000000;
 
-static uint8_t image[TABLES * PAGE], output[TABLES * PAGE];
-static uint64_t scratch[ROOM], ranges[3 * 1024];
+static uint8_t image[LARGEST], output[LARGEST];
+static uint64_t scratch[ROOM], ranges[3 * 1024], list[LARGEST / 2];
 
 static void put(uint64_t table, uint64_t entry, uint64_t value) {
     for (int i = 0; i < 8; i++) image[table * PAGE + entry * 8 + i] = (uint8_t)(value >> (8 * i));
@@ -77,8 +77,32 @@ static double build(size_t count, uint64_t used, uint64_t size, uint64_t room, u
     return best;
 }
 
-int main(int argc, char **argv) {
-    int turns = argc > 1 ? atoi(argv[1]) : 20;
+/* The least time of a few comparisons of image and output, in milliseconds. */
+static double compare(size_t size, uint64_t count, int turns) {
+    uint64_t answer[4];
+    double best = 1e30;
+    for (int i = 0; i < turns; i++) {
+        double begun = now();
+        archwend_compare(image, size, output, size, list, 4 * count, answer);
+        double took = now() - begun;
+        if (took < best) best = took;
+        if (answer[ARCHWEND_COMPARED_NUMBER] != ARCHWEND_OK || answer[ARCHWEND_COMPARED_COUNT] != count) {
+            fprintf(stderr, "bench: number %d, %lu differences\n", (int)answer[ARCHWEND_COMPARED_NUMBER],
+                    (unsigned long)answer[ARCHWEND_COMPARED_COUNT]);
+            exit(1);
+        }
+    }
+    return best;
+}
+
+/* Prints a row's next time, and times the one before. */
+static void column(double took, double *before) {
+    if (*before > 0) printf(" %9.3f x %.2f", took, took / *before);
+    else printf(" %9.3f", took);
+    *before = took;
+}
+
+static void builds(int turns) {
     uint64_t used = fill(470 * 512);
     for (int order = 0; order < MORE; order++) {
         size_t count = ask(order, 10000, 480 * 512);
@@ -92,12 +116,28 @@ int main(int argc, char **argv) {
         printf("%-20s", names[order]);
         for (uint64_t n = 10000; n <= 80000; n *= 2) {
             used = fill(n);
-            double took = build(ask(order, n, 160 * 512), used, used + (n + 511) / 512, 3 * n, n, turns);
-            if (before > 0) printf(" %9.3f x %.2f", took, took / before);
-            else printf(" %9.3f", took);
-            before = took;
+            column(build(ask(order, n, 160 * 512), used, used + (n + 511) / 512, 3 * n, n, turns), &before);
         }
         puts("");
     }
+}
+
+static void comparisons(int turns) {
+    puts("\ntwo images of so many KiB are compared: milliseconds, and times the one before");
+    printf("%-20s %9d %16d %16d %16d\n", "", 256, 512, 1024, 2048);
+    for (int differ = 1; differ >= 0; differ--) {
+        double before = 0;
+        printf("%-20s", differ ? "every entry differs" : "nothing differs");
+        memset(image, 0, sizeof image);
+        memset(output, differ ? 0xa5 : 0, sizeof output);
+        for (size_t size = LARGEST / 8; size <= LARGEST; size *= 2) column(compare(size, differ ? size / 8 : 0, turns), &before);
+        puts("");
+    }
+}
+
+int main(int argc, char **argv) {
+    int turns = argc > 1 ? atoi(argv[1]) : 20;
+    builds(turns);
+    comparisons(turns);
     return 0;
 }

@@ -32,13 +32,14 @@ enum archwend_number {
     ARCHWEND_UNALIGNED_OFFSET = 12, /* an offset is not a multiple of the size that the entry maps */
     ARCHWEND_OUT_OF_BOUNDS = 13,    /* a leaf would move out of 0 to the bound */
     ARCHWEND_SAME_ADDRESS = 14,     /* two leaves would move to one address */
-    ARCHWEND_SCRATCH_FULL = 15,     /* the scratch has no room for another moved leaf */
+    ARCHWEND_NO_ROOM = 15,          /* the scratch has no room for another moved leaf, or a list is too short */
     ARCHWEND_LARGE_IN_THE_WAY = 16, /* a large leaf stands in the way of a moved leaf */
     ARCHWEND_WAY_OUTSIDE = 17,      /* the way to a moved leaf leaves the moved region */
     ARCHWEND_OCCUPIED = 18,         /* a different entry stands where a moved leaf goes */
     ARCHWEND_NO_FREE_TABLE = 19,    /* the region has no free table left */
-    ARCHWEND_ENTRY = 20             /* the address has a bit that the entry can't hold, the level is above 4, or the kind
+    ARCHWEND_ENTRY = 20,            /* the address has a bit that the entry can't hold, the level is above 4, or the kind
                                        of entry is unknown */
+    ARCHWEND_NOT_COMPARABLE = 34    /* two images differ in length, are not whole pages, or are longer than 2097152 bytes */
 };
 
 /* The words of a build's report. After a refusal the counts are 0; after acceptance the place is. */
@@ -83,6 +84,26 @@ uint64_t archwend_set_page_data(
     const uint8_t *data, /* the page */
     size_t data_len,     /* 4096, or 0: then nothing is changed */
     uint64_t cr4         /* as above, for the region's bound */
+);
+
+/* The words of a comparison's answer. After a refusal, and where nothing differs, all but the first are 0. */
+enum archwend_compared {
+    ARCHWEND_COMPARED_NUMBER = 0, /* ARCHWEND_OK or the refusal */
+    ARCHWEND_COMPARED_COUNT = 1,  /* entries that differ */
+    ARCHWEND_COMPARED_START = 2,  /* the first page that differs: where it starts in the newer image, */
+    ARCHWEND_COMPARED_SIZE = 3    /* and its bytes, 4096 */
+};
+
+/* Holds two images against each other, entry by entry. The answer's first word is the answer. */
+void archwend_compare(
+    const uint8_t *older, /* only read */
+    size_t older_len,     /* bytes: whole pages, at most 2 MiB */
+    const uint8_t *newer, /* only read; it may be the older one */
+    size_t newer_len,     /* bytes, as many */
+    uint64_t *list,       /* words in fours: table, entry, older value, newer value; ascending, then zeros; all zeros after a
+                             refusal */
+    size_t list_len,      /* words; half as many as an image has bytes are always enough */
+    uint64_t answer[4]    /* see enum archwend_compared */
 );
 
 /* One page table entry is a word. Entries of level 0 map 4 KiB; those of a root are of level 3, with five levels of level 4. */

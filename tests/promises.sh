@@ -65,12 +65,12 @@ done <"$room/names"
         paragraph "${cited#§}" || fail "$file:$line: $cited is no paragraph of $spec"
     done
 
-# ---- 3. Each paragraph of sections 2 to 10 has a row, and each row names what it is about: a declaration, or a file.
+# ---- 3. Each paragraph of sections 2 to 10 and 14 has a row, and each row names what it is about: a declaration, or a file.
 sed -n 's/^| \([0-9][0-9]*\.[0-9][0-9]*\)[a-z]\{0,1\} |.*/\1/p' "$page" | sort -u >"$room/rows"
 while read -r number; do
     paragraph "$number" || fail "$page: the row $number has no paragraph"
 done <"$room/rows"
-grep -E '^([2-9]|10)\.' "$room/paragraphs" >"$room/due"
+grep -E '^([2-9]|10|14)\.' "$room/paragraphs" >"$room/due"
 while read -r number; do
     grep -Fxq "$number" "$room/rows" || fail "$page: no row for $number"
 done <"$room/due"
@@ -122,7 +122,7 @@ awk -v spec="$spec" '
 sed '$d' "$room/quotes" >>"$room/failures"
 
 # ---- 5. Each must-fail edit that is named is there.
-sed -n '/^## Wrong programs/,$p' "$page" | { grep -oE '`[a-z0-9]+/[a-z0-9_]+`' || true; } | tr -d '`' | sort -u >"$room/edits"
+sed -n '/^## Wrong programs/,$p' "$page" | { grep -oE '`[a-z0-9_]+/[a-z0-9_]+`' || true; } | tr -d '`' | sort -u >"$room/edits"
 while read -r edit; do
     [ -f "crates/${edit%/*}/must-fail/${edit#*/}.edit" ] || fail "$page: no edit $edit"
 done <"$room/edits"

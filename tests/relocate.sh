@@ -4,10 +4,10 @@
 set -euo pipefail
 root=$(cd "$(dirname "$0")/.." && pwd -P)
 . "$root/tests/words.sh"
+. "$root/tests/verdict.sh"
 room=$(mktemp -d)
 trap 'rm -rf "$room"' EXIT
 cd "$room"
-passed=0 failed=0
 
 report() { # NUMBER USED MOVED MERGED REACHED ADDRESS LEVEL OFFSET
     printf 'number %s\nused %s\nmoved %s\nmerged %s\nreached %s\naddress %s\nlevel %s\noffset %s\n' "$@"
@@ -17,26 +17,6 @@ refusal() { # NUMBER-AND-SENTENCE [ADDRESS LEVEL OFFSET]
     report "$1" 0x0 0x0 0x0 0x0 "${2:-0x0}" "${3:-0x0}" "${4:-0x0}"
 }
 
-verdict() { # NAME TRUTH..
-    local name=$1
-    shift
-    if "$@"; then passed=$((passed + 1)); else
-        failed=$((failed + 1))
-        echo "FAILED: $name"
-        sed 's/^/    /' out err
-    fi
-}
-
-# what the last run gave: exit status, standard output, standard error
-gave() { # STATUS OUT ERR
-    [ "$status" = "$1" ] && [ "$(cat out)" = "$2" ] && [ "$(cat err)" = "$3" ]
-}
-
-run() {
-    status=0
-    "$root/archwend" relocate "$@" >out 2>err || status=$?
-}
-
 kept() { [ "$(cat output)" = untouched ]; }
 
 # wrong NAME LINE ARGUMENTS..: status 2, that line, no report, and no output
@@ -44,7 +24,7 @@ wrong() {
     local name=$1 line=$2
     shift 2
     printf untouched >output
-    run "$@"
+    run relocate "$@"
     verdict "$name" gave 2 '' "$line"
     verdict "$name, output" kept
 }
@@ -54,7 +34,7 @@ refused() {
     local name=$1 text=$2
     shift 2
     printf untouched >output
-    run "$@"
+    run relocate "$@"
     verdict "$name" gave 1 "$text" ''
     verdict "$name, output" kept
 }
@@ -65,7 +45,7 @@ accepted() {
     shift 3
     # longer than what is written, so that a part left over shows
     head -c 3000000 /dev/zero | tr '\0' x >output
-    run "$@"
+    run relocate "$@"
     verdict "$name" gave 0 "$text" ''
     verdict "$name, output" [ "$(stat -c %s output)" = $((length)) ]
 }
@@ -186,7 +166,7 @@ signed="$number, or one after '-' of at most 2^63"
     verdict "five levels, a region at 2^48, the same bytes" cmp -s deep output
     cp image both
     accepted "from a copy" "$(report '0 accepted' 0x3000 0x1 0x0 0x3 0x0 0x0 0x0)" 0x3000 both ranges output $region
-    run both ranges both $region
+    run relocate both ranges both $region
     verdict "output over the image" cmp -s both output
     head -c 2097152 /dev/zero >full
     put full 0 0 0x1001023
@@ -199,5 +179,4 @@ signed="$number, or one after '-' of at most 2^63"
     refused "1024 ranges" "$(refusal "$bad_ranges")" image zeros output $region
 }
 
-echo "$passed passed, $failed failed"
-[ "$failed" -eq 0 ]
+counted

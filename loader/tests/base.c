@@ -1,5 +1,5 @@
 /* Over include/archwend.h: builds the specification's base example, where the 2 MiB page at 0x200000 moves up by 2 MiB; with five
- * levels it moves up by 2^48. Then the bounds of a region, entries alone, and levels. */
+ * levels it moves up by 2^48. Then what the build changed, the bounds of a region, entries alone, and levels. */
 #include "archwend.h"
 #include <stdio.h>
 #include <string.h>
@@ -15,6 +15,7 @@ static void fill(int count) {
     for (int i = 0; i + 1 < count; i++)
         page[i][0] = gpa + 4096 * (uint64_t)(i + 1) + 0x23;
     page[count - 1][1] = 0x2000e3;
+    memset(expected, 0, sizeof expected);
     memcpy(expected, page, sizeof page);
 }
 
@@ -55,7 +56,7 @@ static int four_levels(void) {
     if (build(0x200000, size, 0x3000, gpa, 0, 3) != ARCHWEND_OK || !built(0x3000, 3))
         return 0;
     /* No room for the leaf. */
-    return build(0x200000, size, 0x3000, gpa, 0, 2) == ARCHWEND_SCRATCH_FULL && refused_at(0x200000, 1);
+    return build(0x200000, size, 0x3000, gpa, 0, 2) == ARCHWEND_NO_ROOM && refused_at(0x200000, 1);
 }
 
 static int five_levels(void) {
@@ -81,6 +82,40 @@ static int five_levels(void) {
     if (build(WIDE_LIMIT - 0x200000, size, 0x4000, gpa, cr4, 3) != ARCHWEND_OUT_OF_BOUNDS || !refused_at(0x200000, 1))
         return 0;
     return build(LIMIT, size, 0x4000, gpa + 0x4000, cr4, 3) == ARCHWEND_FREE_TAIL && refused_at(0, 5);
+}
+
+static uint64_t list[9], answer[4];
+
+/* Compares the image with the build's output, with a list of so many words. */
+static uint64_t compare(size_t image_len, size_t output_len, size_t room) {
+    memset(list, 0xa5, sizeof list);
+    archwend_compare((const uint8_t *)image, image_len, (const uint8_t *)output, output_len, list, room, answer);
+    return answer[ARCHWEND_COMPARED_NUMBER];
+}
+
+static int compared(uint64_t count, uint64_t start, uint64_t bytes) {
+    return answer[ARCHWEND_COMPARED_COUNT] == count && answer[ARCHWEND_COMPARED_START] == start &&
+           answer[ARCHWEND_COMPARED_SIZE] == bytes;
+}
+
+/* What the build of four levels changed. */
+static int comparison(void) {
+    const uint64_t dirty = 0xa5a5a5a5a5a5a5a5u, changes[9] = {2, 1, 0x2000e3, 0, 2, 2, 0, 0x4000e3, 0}, none[9] = {0};
+
+    if (!four_levels() || build(0x200000, size, 0x3000, gpa, 0, 3) != ARCHWEND_OK)
+        return 0;
+    if (compare(0x3000, 0x3000, 9) != ARCHWEND_OK || !compared(2, 0x2000, 4096) || memcmp(list, changes, sizeof list) != 0)
+        return 0;
+    /* Just room enough, and not; no difference before the third page. */
+    if (compare(0x3000, 0x3000, 8) != ARCHWEND_OK || memcmp(list, changes, 8 * sizeof *list) != 0 || list[8] != dirty)
+        return 0;
+    if (compare(0x3000, 0x3000, 7) != ARCHWEND_NO_ROOM || !compared(0, 0, 0) || memcmp(list, none, 7 * sizeof *list) != 0)
+        return 0;
+    if (compare(0x2000, 0x2000, 0) != ARCHWEND_OK || !compared(0, 0, 0) || compare(0, 0, 0) != ARCHWEND_OK)
+        return 0;
+    if (compare(0x2000, 0x3000, 9) != ARCHWEND_NOT_COMPARABLE || !compared(0, 0, 0) || memcmp(list, none, sizeof list) != 0)
+        return 0;
+    return compare(0x2008, 0x2008, 9) == ARCHWEND_NOT_COMPARABLE;
 }
 
 /* Where a region may end: 2^48, or 2^52 where cr4 has the bit 0x1000, whatever the other bits. */
@@ -140,12 +175,12 @@ static int levels(void) {
 }
 
 int main(void) {
-    int (*const parts[])(void) = {four_levels, five_levels, bounds, entries, levels};
+    int (*const parts[])(void) = {four_levels, five_levels, comparison, bounds, entries, levels};
 
-    for (int i = 0; i < 5; i++) {
+    for (int i = 0; i < 6; i++) {
         if (!parts[i]())
             return i + 1;
     }
-    puts("four levels, five levels, bounds, entries, levels: as expected");
+    puts("four levels, five levels, comparison, bounds, entries, levels: as expected");
     return 0;
 }

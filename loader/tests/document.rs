@@ -1,6 +1,9 @@
 //! The specification's examples, each refusal, five levels, and buffers too short, through the public calls.
 
+mod common;
+
 use archwend::*;
+use common::*;
 
 const GPA: u64 = 0x100000;
 const CPU: CpuPagingState = CpuPagingState { cr3: GPA, cr4: 0 };
@@ -11,21 +14,8 @@ const PAGE: u64 = 0x200000;
 const LIMIT: u64 = 1 << 48;
 const WIDE_LIMIT: u64 = 1 << 52;
 
-/// Table, entry, word.
-type Entry = (usize, usize, u64);
-
-const BASE: [Entry; 3] = [(0, 0, 0x101023), (1, 0, 0x102023), (2, 1, 0x2000e3)];
-
 /// The base below a root whose entries are of level 4.
 const DEEP: [Entry; 4] = [(0, 0, 0x101023), (1, 0, 0x102023), (2, 0, 0x103023), (3, 1, 0x2000e3)];
-
-fn tables(count: usize, entries: &[Entry]) -> Vec<u8> {
-    let mut words = vec![0u64; 512 * count];
-    for (t, e, w) in entries {
-        words[512 * t + e] = *w;
-    }
-    words.iter().flat_map(|w| w.to_le_bytes()).collect()
-}
 
 /// A builder of a region with so many tables, loaded page by page.
 fn builder_at(gpa: u64, size: u64, count: usize, entries: &[Entry]) -> PageTableRelocationBuilder {
@@ -50,10 +40,6 @@ fn base(offset: i64, size: u64, more: &[Entry]) -> Result<(Vec<u8>, Report), Err
 fn deep(offset: i64, size: u64, more: &[Entry]) -> Result<(Vec<u8>, Report), Error> {
     let entries = [&DEEP, more].concat();
     builder_at(GPA, size, 4, &entries).build_and_report(0, &[(PAGE..=0x3fffff, offset)], FIVE)
-}
-
-fn refusal(number: u64, address: u64, level: u64, offset: i64) -> Error {
-    Error { number, place: Place { address, level, offset } }
 }
 
 fn number<T>(answer: Result<T, Error>) -> u64 {
@@ -300,18 +286,23 @@ fn any_numbers_are_taken() {
 
 #[test]
 fn each_refusal_has_its_sentence() {
-    let numbers = (1..=20).filter(|n| *n != 5).chain([Error::NO_MEMORY]);
+    let numbers = (1..=20).filter(|n| *n != 5).chain([34, Error::NO_MEMORY]);
     let all: Vec<&str> = numbers.map(|n| refusal(n, 0, 0, 0).sentence()).collect();
     let mut single = all.clone();
     single.sort();
     single.dedup();
     assert_eq!(single.len(), all.len());
     // Of a number that is out of use, or that no refusal has yet.
-    for n in [5, 21] {
+    for n in [5, 21, 33, 35] {
         let unknown = refusal(n, 0, 0, 0);
         assert!(!all.contains(&unknown.sentence()));
         assert_eq!(unknown.to_string(), format!("the number is not known (refusal {n})"));
     }
     let text = refusal(12, PAGE, 1, 0x201000).to_string();
     assert!(text.contains("refusal 12 at 0x200000, level 1, offset 2101248"), "{text}");
+    // A place of zeros is one where the number has a place; a list too short has none.
+    for (n, end) in [(9, "(refusal 9 at 0x0, level 0)"), (15, "(refusal 15)"), (34, "(refusal 34)")] {
+        let text = refusal(n, 0, 0, 0).to_string();
+        assert!(text.ends_with(end), "{text}");
+    }
 }

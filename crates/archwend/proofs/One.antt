@@ -8,7 +8,7 @@ use Rattle.definitions.specs.Inputs.{Job}
 use Rattle.definitions.specs.declared.Region.{Region}
 use Rattle.definitions.specs.Entry.{Answer, setAddress, readAddress, mappedSize, levelIndex}
 use Rattle.definitions.specs.Ranges.{tableIn}
-use Rattle.archwend.specs.Exports.{Answers, LoadsPage}
+use Rattle.archwend.specs.Exports.{Answers, LoadsPage, ComparesImages}
 use Rattle.archwend.specs.Entries.{Leaves, Finds, freshOf, SetsFresh, SetsAddr, ReadsAddr, FlagsPresent, FlagsLarge, ClearsWord}
 use Rattle.archwend.specs.Entries.{SizesLevel, IndexesLevel, FindsTable, SplitsInto}
 
@@ -21,6 +21,11 @@ module _ (j : Job) (r r′ o o′ s s′ : List ℕ) where
 module _ (cr4 : ℕ) (r : Region) (image : List ℕ) (gpa : ℕ) (page : List ℕ) (n n′ : ℕ) (xs xs′ : List ℕ) where
   pub one-page : LoadsPage cr4 r image gpa page n xs → LoadsPage cr4 r image gpa page n′ xs′ → (n ≡ n′) × (xs ≡ xs′)
   one-page a b = (a .number ∙ sym (b .number), a .loaded ∙ sym (b .loaded))
+
+-- the answer, and the list
+module _ (older newer : List ℕ) (room : ℕ) (w w′ xs xs′ : List ℕ) where
+  pub one-comparison : ComparesImages older newer room w xs → ComparesImages older newer room w′ xs′ → (w ≡ w′) × (xs ≡ xs′)
+  one-comparison a b = (a .answered ∙ sym (b .answered), a .listed ∙ sym (b .listed))
 
 -- ---- the number n that is returned, and the word w that is left
 module _ {n n′ w w′ : ℕ} where

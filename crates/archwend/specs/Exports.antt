@@ -7,6 +7,7 @@ use lib.ListN.{replicate}
 use Rattle.definitions.specs.Inputs.{Job}
 use Rattle.definitions.specs.Build.{geometryOf, build, outputBytes}
 use Rattle.definitions.specs.Load.{load}
+use Rattle.compare.specs.Meaning.{compared, answerWords}
 use Rattle.definitions.specs.declared.Region.{Region}
 use Rattle.definitions.specs.declared.Report.{Report}
 
@@ -29,3 +30,8 @@ pub record Answers (j : Job) (report output scratch : List ℕ) : Type 0 where
 pub record LoadsPage (cr4 : ℕ) (r : Region) (image : List ℕ) (gpa : ℕ) (page : List ℕ) (n : ℕ) (after : List ℕ) : Type 0 where
   pub number : n ≡ load (geometryOf cr4) r image gpa page .number
   pub loaded : after ≡ load (geometryOf cr4) r image gpa page .image
+
+-- `archwend_compare`: the answer's four words, and every word of the list
+pub record ComparesImages (older newer : List ℕ) (room : ℕ) (answer list : List ℕ) : Type 0 where
+  pub answered : answer ≡ answerWords (compared older newer room)
+  pub listed : list ≡ compared older newer room .list

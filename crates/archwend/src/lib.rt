@@ -3,7 +3,7 @@ use build::CpuPagingState;
 use definitions::Region;
 ghost use lib.ListN.{length};
 ghost use Rattle.definitions.specs.Build.{jobOf};
-ghost use Rattle.archwend.specs.Exports.{regionAt, Answers, LoadsPage};
+ghost use Rattle.archwend.specs.Exports.{regionAt, Answers, LoadsPage, ComparesImages};
 
 pub mod entries;
 
@@ -68,4 +68,18 @@ pub extern "C" fn archwend_set_page_data(
     };
     let geometry = levels::geometry_of(cr4);
     region::set_page_data(image, geometry, r, page_gpa, data)
+}
+
+// Holds two images against each other; list: four words for each entry that differs, table, entry, older value, newer value;
+// answer: number, count, and the first byte and the length of the first page that differs.
+#[no_mangle]
+pub extern "C" fn archwend_compare(
+    older: &[u8],
+    newer: &[u8],
+    list: &mut [u64],
+    answer: &mut [u64; 4],
+)
+    ensures { λ _. ⌜ ComparesImages (now (older .entry)) (now (newer .entry)) (length (now (list .entry))) (now (answer .exit)) (now (list .exit)) ⌝ }
+{
+    compare::compare(older, newer, list, answer);
 }

@@ -133,7 +133,7 @@ fn refuse(out: &mut [u8], scratch: &mut [u64], refusal: Refusal) -> Report
     ensures { λ p. ⌜ Refuses refusal p (now (out .entry)) (now (scratch .entry)) (now (out .exit)) (now (scratch .exit)) ⌝ }
 {
     words::clear(out, 0);
-    moved::clear(scratch);
+    words::clear_words(scratch, 0);
     let place = refusal.place;
     Report {
         number: refusal.number,
@@ -171,7 +171,7 @@ pub fn build(
             match ended {
                 Ended::Stopped(refusal) => refuse(out, scratch, refusal),
                 Ended::Accepted(report) => {
-                    moved::clear(scratch);
+                    words::clear_words(scratch, 0);
                     report
                 }
             }

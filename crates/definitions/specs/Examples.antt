@@ -8,6 +8,7 @@ use Rattle.definitions.specs.Words.{Mem, blank, put, slot}
 use Rattle.definitions.specs.Geometry.{indices}
 use Rattle.definitions.specs.Inputs.{Job, Place, nowhere, Report, Built}
 use Rattle.definitions.specs.Build.{refused, build}
+use Rattle.definitions.specs.Compare.{Compared, notCompared, compare}
 
 -- ---- equality tests
 
@@ -35,18 +36,26 @@ unfoldable pub sameBuilt : ℕ → Built → Built → Bool
 unfolding sameReport sameWords
 sameBuilt n b c = sameReport (b .report) (c .report) && sameWords n 0 (b .output) (c .output)
 
+unfoldable pub sameCompared : Compared → Compared → Bool
+unfolding sameList
+sameCompared c d =
+    eqb (c .number) (d .number) && eqb (c .count) (d .count) && sameList (c .list) (d .list)
+    && eqb (c .start) (d .start) && eqb (c .size) (d .size)
+
 -- ---- the examples
 
 -- a job that is to give a report and an output, compared in every word of the region; an address that is to have
--- these indices, level 0 first
+-- these indices, level 0 first; two images, by length and words, and a room that are to be compared so
 pub data Example : Type 0 where
   builds : Job → Built → Example
   hasIndices : ℕ → List ℕ → Example
+  compares : ℕ → Mem → ℕ → Mem → ℕ → Compared → Example
 
 unfoldable pub holds : Example → Bool
-unfolding sameBuilt sameList
+unfolding sameBuilt sameList sameCompared
 holds (builds j c) = sameBuilt (j .region .size / 8) (build j) c
 holds (hasIndices a xs) = sameList (indices a) xs
+holds (compares a older b newer room c) = sameCompared (compare a older b newer room) c
 
 unfoldable pub allHold : List Example → Bool
 allHold [] = true
@@ -127,13 +136,27 @@ unfoldable pub farLeaf : Mem
 unfolding base₅
 farLeaf = put (put (put base₅ (slot 3 16) 0x104023) (slot 4 0) 0x105023) (slot 5 0) 0xE3
 
+-- ---- comparisons
+
+-- what becomes of the base in §12.2
+unfoldable pub movedBase : Mem
+unfolding base
+movedBase = put (put base (slot 2 1) 0) (slot 2 2) 0x4000E3
+
+-- accepted: the count, the list, and where the first page that differs begins
+unfoldable pub finds : ℕ → List ℕ → ℕ → Compared
+finds n ws from = record { number = 0; count = n; list = ws; start = from; size = 4096 }
+
+unfoldable pub findsNone : List ℕ → Compared
+findsNone ws = record { number = 0; count = 0; list = ws; start = 0; size = 0 }
+
 -- §12.1 to §12.11 and §12.15; then the order of refusals, §12.16 to §12.19; §12.20, since nothing may be put in while pass 1
--- still runs (§13.2); and five levels, §12.21 to §12.30
+-- still runs (§13.2); five levels, §12.21 to §12.30; and comparisons, §12.31 to §12.39
 unfoldable pub examples : List Example
-unfolding crossing farLeaf base₅
+unfolding crossing farLeaf base₅ movedBase
 examples =
     builds (job 0x8000 0x1FF000 base) (yields 0x3000 0 0 base)
-    ∷ builds (job 0x8000 0x200000 base) (yields 0x3000 1 0 (put (put base (slot 2 1) 0) (slot 2 2) 0x4000E3))
+    ∷ builds (job 0x8000 0x200000 base) (yields 0x3000 1 0 movedBase)
     ∷ builds (job 0x8000 0x201000 base) (refuses 12 0x200000 1 0x201000)
     ∷ builds (job 0x8000 0x40000000 base)
     (yields 0x4000 1 0 (put (put (put base (slot 2 1) 0) (slot 1 1) 0x103023) (slot 3 1) 0x402000E3))
@@ -141,7 +164,7 @@ examples =
     ∷ builds (job 0x8000 (2 ^ 64 - 0x200000) base) (yields 0x3000 1 0 (put (put base (slot 2 1) 0) (slot 2 0) 0xE3))
     ∷ builds (job 0x8000 (2 ^ 64 - 0x400000) base) (refuses 13 0x200000 1 (2 ^ 64 - 0x400000))
     ∷ builds (job 0x8000 0x200000 (put base (slot 2 2) 0x4000E3))
-    (yields 0x3000 1 1 (put (put base (slot 2 1) 0) (slot 2 2) 0x4000E3))
+    (yields 0x3000 1 1 movedBase)
     ∷ builds (job 0x8000 0x200000 (put base (slot 2 2) 0x4000E1)) (refuses 18 0x400000 1 0)
     ∷ builds (job 0x8000 0x200000 (put base (slot 0 511) 0x100023)) (refuses 10 (511 * 2 ^ 39) 3 0)
     ∷ builds (job 0x8000 0x200000 (put base (slot 2 0) 0x103023)) (refuses 9 0 1 0)
@@ -151,7 +174,7 @@ examples =
     ∷ builds (job 0x3000 0x8000000000 base) (refuses 19 0x8000200000 3 0)
     ∷ builds (job 0x4000 0x8000000000 base) (refuses 19 0x8000200000 2 0)
     ∷ builds (jobTo 0x5FFFFF 0x8000 0x200000 (put base (slot 2 2) 0x4000E3))
-    (yields 0x3000 2 0 (put (put (put base (slot 2 1) 0) (slot 2 2) 0x4000E3) (slot 2 3) 0x6000E3))
+    (yields 0x3000 2 0 (put movedBase (slot 2 3) 0x6000E3))
     ∷ builds (job₅ 0x8000 0x200000 base₅) (yields₅ 0x4000 (put base₅ (slot 2 2) 0x4000E3))
     ∷ builds (job₅ 0x8000 (2 ^ 48) base₅)
     (yields₅ 0x7000 (put (put (put (put base₅ (slot 3 1) 0x104023) (slot 4 0) 0x105023) (slot 5 0) 0x106023) (slot 6 1) (2 ^ 48 + 0x2000E3)))
@@ -165,4 +188,14 @@ examples =
     ∷ builds (job₅ 0x8000 (2 ^ 48) (put base₅ (slot 3 1) 0x200023)) (refuses 17 (2 ^ 48 + 0x200000) 4 0)
     ∷ builds (job₅ 0x8000 0x200000 (put base₅ (slot 3 511) 0x107023)) (refuses 9 (511 * 2 ^ 48) 4 0)
     ∷ builds (jobTo₅ 0x6000 0x103000 0x8000 0x200000 farLeaf) (yieldsOf 6 0x6000 1 0 (put (put farLeaf (slot 2 1) 0) (slot 2 2) 0x4000E3))
+    ∷ compares 0x3000 base 0x3000 movedBase 9 (finds 2 (2 ∷ 1 ∷ 0x2000E3 ∷ 0 ∷ 2 ∷ 2 ∷ 0 ∷ 0x4000E3 ∷ 0 ∷ []) 0x2000)
+    ∷ compares 0x3000 base 0x3000 movedBase 7 (notCompared 15 7)
+    ∷ compares 0x3000 base 0x4000 movedBase 7 (notCompared 34 7)
+    ∷ compares 0x3001 base 0x3001 base 2 (notCompared 34 2)
+    ∷ compares 0x201000 base 0x201000 base 2 (notCompared 34 2)
+    ∷ compares 0x3000 base 0x3000 base 3 (findsNone (0 ∷ 0 ∷ 0 ∷ []))
+    ∷ compares 0 base 0 movedBase 0 (findsNone [])
+    ∷ compares 0x3000 (put base (slot 0 511) 7) 0x3000 (put base (slot 1 0) 0x102022) 8
+    (finds 2 (0 ∷ 511 ∷ 7 ∷ 0 ∷ 1 ∷ 0 ∷ 0x102023 ∷ 0x102022 ∷ []) 0)
+    ∷ compares 0x3000 base 0x3000 (put base (slot 2 511) (2 ^ 63)) 4 (finds 1 (2 ∷ 511 ∷ 0 ∷ 2 ^ 63 ∷ []) 0x2000)
     ∷ []

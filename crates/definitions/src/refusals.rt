@@ -28,7 +28,7 @@ pub const OUT_OF_BOUNDS: u64 = 13;
 
 pub const SAME_ADDRESS: u64 = 14;
 
-pub const SCRATCH_FULL: u64 = 15;
+pub const NO_ROOM: u64 = 15;
 
 pub const LARGE_IN_THE_WAY: u64 = 16;
 
@@ -40,3 +40,6 @@ pub const NO_FREE_TABLE: u64 = 19;
 
 // Of the operations on entries and levels, whose answer is levels::Answer.
 pub const ENTRY: u64 = 20;
+
+// Of a comparison.
+pub const NOT_COMPARABLE: u64 = 34;

@@ -2,8 +2,7 @@
 use build::CpuPagingState;
 use definitions::Region;
 use definitions::Report;
-use definitions::refusals;
-use libc::STDERR_FILENO;
+use files::Filled;
 use libc::STDOUT_FILENO;
 use text::Number;
 
@@ -38,20 +37,7 @@ enum Loaded {
     TooLong,
 }
 
-// One line on standard error.
-fn complain(what: &[u8], why: &[u8]) {
-    io::write_all(STDERR_FILENO, what);
-    io::write_all(STDERR_FILENO, b": ");
-    io::write_all(STDERR_FILENO, why);
-    io::write_all(STDERR_FILENO, b"\n");
-}
-
-// The first n bytes, or all where there are fewer.
-fn front(s: &[u8], n: usize) -> &[u8] {
-    if n <= s.len() { &s[0..n] } else { s }
-}
-
-// The same of words.
+// The first n words, or all where there are fewer.
 fn front_words(s: &[u64], n: usize) -> &[u64] {
     if n <= s.len() { &s[0..n] } else { s }
 }
@@ -62,7 +48,7 @@ fn number(at: usize, what: &[u8]) -> Number {
     let n = os::arg(at, &mut text);
     let read = text::parse_hex(&text[..n]);
     if let Number::Bad = read {
-        complain(what, b"not a hexadecimal number of at most 64 bits");
+        files::complain(what, b"not a hexadecimal number of at most 64 bits");
     }
     read
 }
@@ -72,7 +58,7 @@ fn table_offset(at: usize, what: &[u8]) -> Number {
     let n = os::arg(at, &mut text);
     let read = text::parse_signed(&text[..n]);
     if let Number::Bad = read {
-        complain(
+        files::complain(
             what,
             b"not a hexadecimal number of at most 64 bits, or one after '-' of at most 2^63",
         );
@@ -108,50 +94,37 @@ fn numbers() -> Given {
 
 // The buffer is full: whether the file ends here too.
 fn at_end(fd: i32, n: usize) -> Loaded {
-    let mut more = [0u8; 1];
-    let got = libc::read(fd, &mut more);
-    if got < 0 {
+    let mut byte = [0u8; 1];
+    let Filled::Bytes(more) = files::fill(fd, &mut byte) else {
         return Loaded::Failed;
+    };
+    if more == 0 {
+        Loaded::Bytes(n)
+    } else {
+        Loaded::TooLong
     }
-    if got == 0 {
-        return Loaded::Bytes(n);
-    }
-    Loaded::TooLong
 }
 
 fn read_to_end(fd: i32, buf: &mut [u8]) -> Loaded {
-    let mut n: usize = 0;
-    while n < buf.len() {
-        let got = libc::read(fd, &mut buf[n..]);
-        if got < 0 {
-            return Loaded::Failed;
-        }
-        let more = io::count(got, &buf[n..]);
-        if more == 0 {
-            return Loaded::Bytes(n);
-        }
-        n += more;
+    let Filled::Bytes(n) = files::fill(fd, buf) else {
+        return Loaded::Failed;
+    };
+    if n < buf.len() {
+        return Loaded::Bytes(n);
     }
     at_end(fd, n)
 }
 
 // Reads the file that argument `at` names; what goes wrong is said on standard error.
 fn load(at: usize, what: &[u8], limit: &[u8], buf: &mut [u8]) -> Loaded {
-    let mut path = io::buffer();
-    let n = os::arg(at, &mut path);
-    if os::errno() != 0 {
-        os::fail(what);
-        return Loaded::Failed;
-    }
-    let fd = os::open_read(&path[..n]);
+    let fd = files::open(at, what);
     if fd < 0 {
-        os::fail(what);
         return Loaded::Failed;
     }
     let loaded = read_to_end(fd, buf);
     match loaded {
         Loaded::Failed => os::fail(what),
-        Loaded::TooLong => complain(what, limit),
+        Loaded::TooLong => files::complain(what, limit),
         Loaded::Bytes(_) => (),
     }
     libc::close(fd);
@@ -180,13 +153,13 @@ fn load_ranges(words: &mut [u64]) -> Loaded {
         return loaded;
     };
     if n % 24 != 0 {
-        complain(
+        files::complain(
             b"relocate: RANGES",
             b"not a whole number of 24-byte records",
         );
         return Loaded::Failed;
     }
-    decode(front(&records, n), words);
+    decode(files::front(&records, n), words);
     Loaded::Bytes(n / 8)
 }
 
@@ -215,58 +188,6 @@ fn put(text: &[u8]) -> bool {
     io::write_all(STDOUT_FILENO, text)
 }
 
-// Acceptance, or why the inputs are refused.
-fn put_checks(number: u64) -> bool {
-    match number {
-        0 => put(b"accepted"),
-        refusals::REGION => put(
-            b"the region is not whole pages, is empty, has more than 512 tables, ends past the bound, or uses more than its size",
-        ),
-        refusals::PAGE_LENGTH => put(b"the page data is not 4096 bytes long"),
-        refusals::PAGE_GPA => put(
-            b"the page's address is outside the region, or not a multiple of 4096",
-        ),
-        refusals::LENGTHS => put(
-            b"the image is not as long as the used part, or the output is shorter than the region",
-        ),
-        refusals::CR3 => put(b"cr3 is not in the region"),
-        refusals::TABLE_OFFSET => put(
-            b"the table offset is not a multiple of 4096, or moves the region out of 0 to the bound",
-        ),
-        refusals::RANGES => put(
-            b"the ranges are more than 1024, not words in threes or not ascending, or one is empty, past the bound or over the region",
-        ),
-        refusals::FREE_TAIL => put(
-            b"a table, or the page of a load, lies in the free tail of the region",
-        ),
-        _ => put(b"unknown"),
-    }
-}
-
-// The report's number in words: why a pass refused, or what came before the passes.
-fn put_sentence(number: u64) -> bool {
-    match number {
-        refusals::SHARED_TABLE => put(b"a table is reached twice"),
-        refusals::INTO_MOVED => put(
-            b"an entry points outside the old region but into the moved one",
-        ),
-        refusals::UNALIGNED_OFFSET => put(
-            b"an offset is not a multiple of the size that the entry maps",
-        ),
-        refusals::OUT_OF_BOUNDS => put(b"a leaf would move out of 0 to the bound"),
-        refusals::SAME_ADDRESS => put(b"two leaves would move to one address"),
-        refusals::SCRATCH_FULL => put(b"the scratch has no room for another moved leaf"),
-        refusals::LARGE_IN_THE_WAY => put(b"a large leaf stands in the way of a moved leaf"),
-        refusals::WAY_OUTSIDE => put(b"the way to a moved leaf leaves the moved region"),
-        refusals::OCCUPIED => put(b"a different entry stands where a moved leaf goes"),
-        refusals::NO_FREE_TABLE => put(b"the region has no free table left"),
-        refusals::ENTRY => put(
-            b"the address has a bit that the entry can't hold, the level is above 4, or the kind of entry is unknown",
-        ),
-        _ => put_checks(number),
-    }
-}
-
 fn line(name: &[u8], value: u64) -> bool {
     put(name);
     io::print_hex(STDOUT_FILENO, value, 1);
@@ -278,7 +199,7 @@ fn print_report(report: Report) -> bool {
     put(b"number ");
     io::print_decimal(STDOUT_FILENO, report.number);
     put(b" ");
-    put_sentence(report.number);
+    sentences::write(STDOUT_FILENO, report.number);
     put(b"\n");
     line(b"used 0x", report.used);
     line(b"moved 0x", report.moved);
@@ -292,7 +213,7 @@ fn print_report(report: Report) -> bool {
 // The tables are written before the report says that they are.
 fn finish(out: &[u8], report: Report) {
     if report.number == 0 {
-        let is_saved = save(front(out, report.used as usize));
+        let is_saved = save(files::front(out, report.used as usize));
         if !is_saved {
             return;
         }
@@ -330,7 +251,7 @@ fn relocate(image: &mut [u8], out: &mut [u8], scratch: &mut [u64]) {
         return;
     };
     run(
-        front(image, used),
+        files::front(image, used),
         out,
         scratch,
         front_words(&words, count),
@@ -345,7 +266,7 @@ fn lend(image: &mut [u8; IMAGE_MAX], out: &mut [u8; IMAGE_MAX], scratch: &mut [u
 
 fn main() {
     if os::arg_count() != 9 {
-        complain(
+        files::complain(
             b"usage",
             b"relocate IMAGE RANGES OUTPUT GPA SIZE CR3 CR4 OFFSET",
         );

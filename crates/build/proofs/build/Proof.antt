@@ -12,6 +12,7 @@ use Rattle.definitions.specs.Words.{wordsOf}
 use lib.ListN.{length}
 use Prim.Native.Nat.{ℕ, _≤_}
 use mathlib.Core.List.{List}
+use Rattle.definitions.proofs.Clearing.{cleared-all}
 use mathlib.Core.Path.{_≡_, refl, subst, _∙_}
 use native.Mathlib.Omega.{arith}
 use borrow.Author.Needs.{needs}
@@ -129,7 +130,8 @@ returns-3 c =
     let j = J (checked (zeros p)) in
     let accepted = subst (Passes j (wordsOf (p .passes .last .0))) (e .ended2 .given .1) (p .passes .ensures j (ready (zeros p))) in
     let low : Bytes (p .passes .last .0) = λ i. omega (arith, b .before .before .slice-known7 .given i) in
-    accepted-builds (p .passes .last .0) (p .passes .last .1 .0) _ accepted low (bytes-long b) (cleared .clear2 .ensures) (b .before .scratch2 .given)
+    let zero = cleared .clear-words .ensures ∙ cleared-all _ in
+    accepted-builds (p .passes .last .0) (p .passes .last .1 .0) _ accepted low (bytes-long b) zero (b .before .scratch2 .given)
 
 pub build-spec : {M : Type 1} → statement M
 build-spec =

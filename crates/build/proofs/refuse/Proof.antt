@@ -12,7 +12,7 @@ unfolding refused
 returns c =
     let words = c .before .before .before in
     let bytes = words .before .before .before .before in
-    record { report = refl; output = bytes .clear .ensures ∙ cleared-all _; scratch = words .clear2 .ensures }
+    record { report = refl; output = bytes .clear .ensures ∙ cleared-all _; scratch = words .clear-words .ensures ∙ cleared-all _ }
 
 pub refuse-spec : {M : Type 1} → statement M
 refuse-spec = tie.close (tie.spec (search needs) (search needs) (search needs) (search needs) returns)
