@@ -1,16 +1,46 @@
-/* Archwend: moves the page tables of a guest whose memory was moved. Link libarchwend.a (x86-64).
+/* Archwend: moves the page tables of a guest whose memory was moved. Link libarchwend.a (x86-64 ELF).
  *
- * No pointer may be null, also where its length is 0. Words are aligned to 8 bytes, those of masks to 4. The memory that a call
- * writes shares no byte with any other memory lent to it. Nothing else is required: any numbers are taken, and what can't be done
- * is refused. */
+ * No pointer may be null, also where its length is 0: for an empty C++ vector, whose data() may be null, give the address of any
+ * word. A length is that of memory that is really there, since lent memory that may be written is cleared to its end. Words are
+ * aligned to 8 bytes, those of masks to 4. The memory that a call writes shares no byte with any other memory lent to it. Nothing
+ * else is required: any numbers are taken, and what can't be done is refused.
+ *
+ * A level counts from the entries that map 4 KiB: an entry of level 0 maps 4 KiB, of level 1 2 MiB, of level 2 1 GiB, of level 3
+ * 512 GiB and of level 4 256 TiB. The root table's entries have level 3, with five levels (cr4 bit 0x1000) level 4.
+ *
+ * For firmware and kernels, as tests/interface.sh measures it: besides memset nothing is undefined in the archive. A call takes
+ * less than 8 KiB of stack; a walk down five levels takes 4.5. The code uses SSE2 registers: they have to be switched on, and saved
+ * where a call interrupts their user. archwend_mapping_size and archwend_extract_individual_masks use the red zone, the 128 bytes
+ * below the stack pointer: while they run no interrupt may be taken on their stack. All others leave it alone. Relocations are
+ * relative to the code (R_X86_64_PC32, R_X86_64_PLT32), so it runs at any address. No data is written but what is lent: any number
+ * of threads may call at once, each with memory of its own. */
 #ifndef ARCHWEND_H
 #define ARCHWEND_H
+
+#if !defined(__x86_64__) || defined(__ILP32__) || defined(_WIN32) || defined(__CYGWIN__) || defined(__APPLE__)
+#error "libarchwend.a is ELF code for x86-64 with 64-bit pointers and the System V calling convention"
+#endif
 
 #include <stddef.h>
 #include <stdint.h>
 
 #ifdef __cplusplus
 extern "C" {
+#endif
+
+/* The version of this interface: it goes up with every change that a caller can see. The archive has it in a function's name, which
+ * is asked for here, so that what was compiled with another version does not link. */
+#define ARCHWEND_VERSION 1
+
+/* Returns ARCHWEND_VERSION. */
+uint64_t archwend_interface_1(void);
+
+#ifdef __GNUC__
+#if __has_attribute(retain) /* kept also where the linker drops what nothing uses */
+static uint64_t (*const archwend_interface)(void) __attribute__((used, retain)) = archwend_interface_1;
+#else
+static uint64_t (*const archwend_interface)(void) __attribute__((used)) = archwend_interface_1;
+#endif
 #endif
 
 /* Refusals; ARCHWEND_OK is an answer without one. The bound is 2^48; with five levels (cr4 bit 0x1000) it is 2^52. */
@@ -42,7 +72,8 @@ enum archwend_number {
     ARCHWEND_NOT_COMPARABLE = 34    /* two images differ in length, are not whole pages, or are longer than 2097152 bytes */
 };
 
-/* The words of a build's report. After a refusal the counts are 0; after acceptance the place is. */
+/* The words of a build's report. After a refusal the counts are 0; after acceptance the place is. A place is that of an entry for
+ * 9 to 15, its address the first that the entry maps; for 16 to 19 the address is the moved leaf's new one. */
 enum archwend_report {
     ARCHWEND_NUMBER = 0,        /* ARCHWEND_OK or the refusal */
     ARCHWEND_USED = 1,          /* bytes of tables in the output */
@@ -62,7 +93,7 @@ void archwend_build(
     size_t output_len,      /* bytes, at least `size` */
     uint64_t *scratch,      /* room for one moved leaf per three words; left zero */
     size_t scratch_len,     /* words */
-    const uint64_t *ranges, /* words in threes: first, last (included), offset in two's complement; ascending */
+    const uint64_t *ranges, /* words in threes: first, last (included), offset in two's complement; ascending, at most 1,024 */
     size_t ranges_len,      /* words */
     uint64_t gpa,           /* where the region starts */
     uint64_t size,          /* its bytes, at most 2 MiB */
@@ -106,7 +137,7 @@ void archwend_compare(
     uint64_t answer[4]    /* see enum archwend_compared */
 );
 
-/* One page table entry is a word. Entries of level 0 map 4 KiB; those of a root are of level 3, with five levels of level 4. */
+/* One page table entry is a word. */
 
 /* The kinds of a fresh entry; a leaf's is its level. */
 enum archwend_kind {

@@ -9,6 +9,7 @@ root=$(cd "$(dirname "$0")/.." && pwd -P)
 room=$(mktemp -d)
 trap 'rm -rf "$room"' EXIT
 cd "$room"
+built compare
 
 # what the last run printed is `wanted`, with that exit status, and it said nothing
 printed() { # STATUS

@@ -13,7 +13,7 @@ sed -n '/^enum archwend_number/,/^}/p' include/archwend.h |
     grep -v -e '^enum' -e '^ *ARCHWEND_OK = 0,$' -e '^ */\* 5 is out of use\. \*/$' -e '^}' |
     tr -s '\n ' '  ' | sed 's| \*/ *|\n|g' |
     sed 's|^ *ARCHWEND_\([A-Z0-9_]*\) = \([0-9]*\),\{0,1\} /\* \(.*\)$|\2 \1: \3|' >"$room/header"
-sed -n '/^refusals! {/,/^}/s/^ \+//p' loader/src/lib.rs |
+sed -n '/^refusals! {/,/^}/s/^ \+//p' loader/src/refusals.rs |
     sed 's/^\([A-Z0-9_]*\) = \([0-9]*\), "\(.*\)";$/\2 \1: \3/' >"$room/loader"
 # sentences takes its numbers from the definitions, by name.
 tr -s '\n ' '  ' <crates/sentences/src/lib.rt | grep -o '[^ ]* => io::write_all( *fd, *b"[^"]*"' |

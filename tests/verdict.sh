@@ -11,6 +11,15 @@ verdict() { # NAME TRUTH..
     fi
 }
 
+# built COMMAND ARGUMENTS..: a wrong use of a command, which builds what the command needs; that is said on standard error, and so
+# is done before the runs
+built() {
+    "$root/archwend" "$@" >out 2>err || [ $? -eq 2 ] || {
+        cat err >&2
+        exit 3
+    }
+}
+
 # run COMMAND ARGUMENTS..: leaves its exit status in status, and what it writes in out and err
 run() {
     status=0

@@ -5,7 +5,7 @@ words() {
     local value byte text
     for value; do
         text=
-        for byte in 0 8 16 24 32 40 48 56; do text+=$(printf '\\x%02x' $((value >> byte & 255))); done
+        for byte in 0 8 16 24 32 40 48 56; do printf -v text '%s\\x%02x' "$text" $((value >> byte & 255)); done
         printf '%b' "$text"
     done
 }

@@ -1,5 +1,6 @@
 //! Two images held against each other, through the public calls: the specification's example, lengths, lists of any length, single
 //! entries and bits, and random images, each against a comparison that is written here.
+#![cfg(feature = "alloc")]
 
 mod common;
 
@@ -36,7 +37,7 @@ fn compare_with(older: &[u8], newer: &[u8], room: usize) -> u64 {
             (0, changes)
         }
         Err(e) => {
-            assert_eq!(e, refusal(e.number, 0, 0, 0));
+            assert_eq!(e, refusal(e.number));
             (e.number, vec![])
         }
     };
@@ -67,12 +68,12 @@ fn the_checked_example() {
     assert_eq!(compared.page(), tables(1, &[(0, 2, 0x4000e3)]));
     assert_eq!(list, [2, 1, 0x2000e3, 0, 2, 2, 0, 0x4000e3]);
     // Against the whole output: the image's free tables are zeros.
-    assert_eq!(compare(&image, &output), Err(refusal(34, 0, 0, 0)));
+    assert_eq!(compare(&image, &output), Err(refusal(34)));
     assert_eq!(compare(&tables(8, &BASE), &output), Ok(up.to_vec()));
     // A table more: the first page that differs is the one that points to it.
     let far = [change(1, 1, 0, 0x103023), change(2, 1, 0x2000e3, 0), change(3, 1, 0, 0x402000e3)];
     let (output, used) = build(0x40000000);
-    assert_eq!(compare(&image, &output[..used]), Err(refusal(34, 0, 0, 0)));
+    assert_eq!(compare(&image, &output[..used]), Err(refusal(34)));
     let padded = tables(4, &BASE);
     assert_eq!(compare(&padded, &output[..used]), Ok(far.to_vec()));
     let mut list = [0; 12];

@@ -1,4 +1,5 @@
 //! The specification's examples, each refusal, five levels, and buffers too short, through the public calls.
+#![cfg(feature = "std")]
 
 mod common;
 
@@ -48,43 +49,43 @@ fn number<T>(answer: Result<T, Error>) -> u64 {
 
 #[test]
 fn the_checked_examples() {
-    let report = |used, moved, merged| Report { used, moved, merged, reached: 3 };
+    let report = |used, moved, merged| report(used, moved, merged, 3);
     assert_eq!(base(0x1ff000, 0x8000, &[]), Ok((tables(3, &BASE), report(0x3000, 0, 0))));
     let up = [BASE[0], BASE[1], (2, 2, 0x4000e3)];
     assert_eq!(base(0x200000, 0x8000, &[]), Ok((tables(3, &up), report(0x3000, 1, 0))));
-    assert_eq!(base(0x201000, 0x8000, &[]), Err(refusal(12, PAGE, 1, 0x201000)));
+    assert_eq!(base(0x201000, 0x8000, &[]), Err(refusal_at(12, PAGE, 1, 0x201000)));
     let far = [BASE[0], BASE[1], (1, 1, 0x103023), (3, 1, 0x402000e3)];
     assert_eq!(base(0x40000000, 0x8000, &[]), Ok((tables(4, &far), report(0x4000, 1, 0))));
-    assert_eq!(base(0x40000000, 0x3000, &[]), Err(refusal(19, 0x40200000, 2, 0)));
+    assert_eq!(base(0x40000000, 0x3000, &[]), Err(refusal_at(19, 0x40200000, 2, 0)));
     let down = [BASE[0], BASE[1], (2, 0, 0xe3)];
     assert_eq!(base(-0x200000, 0x8000, &[]), Ok((tables(3, &down), report(0x3000, 1, 0))));
-    assert_eq!(base(-0x400000, 0x8000, &[]), Err(refusal(13, PAGE, 1, -0x400000)));
+    assert_eq!(base(-0x400000, 0x8000, &[]), Err(refusal_at(13, PAGE, 1, -0x400000)));
     assert_eq!(base(0x200000, 0x8000, &[(2, 2, 0x4000e3)]), Ok((tables(3, &up), report(0x3000, 1, 1))));
-    assert_eq!(base(0x200000, 0x8000, &[(2, 2, 0x4000e1)]), Err(refusal(18, 0x400000, 1, 0)));
-    assert_eq!(base(0x200000, 0x8000, &[(0, 511, 0x100023)]), Err(refusal(10, 511 << 39, 3, 0)));
-    assert_eq!(base(0x200000, 0x8000, &[(2, 0, 0x103023)]), Err(refusal(9, 0, 1, 0)));
+    assert_eq!(base(0x200000, 0x8000, &[(2, 2, 0x4000e1)]), Err(refusal_at(18, 0x400000, 1, 0)));
+    assert_eq!(base(0x200000, 0x8000, &[(0, 511, 0x100023)]), Err(refusal_at(10, 511 << 39, 3, 0)));
+    assert_eq!(base(0x200000, 0x8000, &[(2, 0, 0x103023)]), Err(refusal_at(9, 0, 1, 0)));
     let left = [BASE[0], BASE[1], (2, 0, 0x108023), (2, 2, 0x4000e3)];
     assert_eq!(base(0x200000, 0x8000, &[(2, 0, 0x108023)]), Ok((tables(3, &left), report(0x3000, 1, 0))));
     let top = (LIMIT - 2 * PAGE) as i64;
     assert_eq!(base(top, 0x8000, &[]).unwrap().1, report(0x5000, 1, 0));
-    assert_eq!(base(top + PAGE as i64, 0x8000, &[]), Err(refusal(13, PAGE, 1, top + PAGE as i64)));
+    assert_eq!(base(top + PAGE as i64, 0x8000, &[]), Err(refusal_at(13, PAGE, 1, top + PAGE as i64)));
 }
 
 #[test]
 fn five_levels() {
-    let report = |used, moved| Report { used, moved, merged: 0, reached: 4 };
+    let report = |used, moved| report(used, moved, 0, 4);
     let [root, third, second, _] = DEEP;
     assert_eq!(deep(0x1ff000, 0x8000, &[]), Ok((tables(4, &DEEP), report(0x4000, 0))));
     let up = [root, third, second, (3, 2, 0x4000e3)];
     assert_eq!(deep(0x200000, 0x8000, &[]), Ok((tables(4, &up), report(0x4000, 1))));
     let down = [root, third, second, (3, 0, 0xe3)];
     assert_eq!(deep(-0x200000, 0x8000, &[]), Ok((tables(4, &down), report(0x4000, 1))));
-    assert_eq!(deep(-0x400000, 0x8000, &[]), Err(refusal(13, PAGE, 1, -0x400000)));
+    assert_eq!(deep(-0x400000, 0x8000, &[]), Err(refusal_at(13, PAGE, 1, -0x400000)));
     // By way of another entry of the root: three tables more, or not so many left.
     let over = [root, third, second, (0, 1, 0x104023), (4, 0, 0x105023), (5, 0, 0x106023), (6, 1, 0x10000002000e3)];
     assert_eq!(deep(1 << 48, 0x7000, &[]), Ok((tables(7, &over), report(0x7000, 1))));
     for (size, level) in [(0x6000, 2), (0x5000, 3), (0x4000, 4)] {
-        assert_eq!(deep(1 << 48, size, &[]), Err(refusal(19, 0x1000000200000, level, 0)));
+        assert_eq!(deep(1 << 48, size, &[]), Err(refusal_at(19, 0x1000000200000, level, 0)));
     }
     // Back again.
     let b = builder_at(GPA, 0x8000, 4, &[(0, 1, 0x101023), third, second, DEEP[3]]);
@@ -94,24 +95,24 @@ fn five_levels() {
     let top = (WIDE_LIMIT - 2 * PAGE) as i64;
     let last = [root, third, second, (0, 15, 0x104023), (4, 511, 0x105023), (5, 511, 0x106023), (6, 511, 0xfffffffe000e3)];
     assert_eq!(deep(top, 0x8000, &[]), Ok((tables(7, &last), report(0x7000, 1))));
-    assert_eq!(deep(top + PAGE as i64, 0x8000, &[]), Err(refusal(13, PAGE, 1, top + PAGE as i64)));
+    assert_eq!(deep(top + PAGE as i64, 0x8000, &[]), Err(refusal_at(13, PAGE, 1, top + PAGE as i64)));
 }
 
 /// Level 4 in places, and entries that map from 2^52 up: these are walked, and their leaves stay.
 #[test]
 fn level_four() {
-    let report = |moved| Report { used: 0x4000, moved, merged: 0, reached: 4 };
+    let report = |moved| report(0x4000, moved, 0, 4);
     let wide = (DEEP[0].0, 16, DEEP[0].2);
     let high = [(0, 0, 0), wide, DEEP[1], DEEP[2], DEEP[3]];
     assert_eq!(deep(0x200000, 0x8000, &high), Ok((tables(4, &high), report(0))));
-    assert_eq!(deep(0x200000, 0x8000, &[(0, 16, 0x104023)]), Err(refusal(9, 1 << 52, 4, 0)));
-    assert_eq!(deep(0x200000, 0x8000, &[(0, 511, 0x100023)]), Err(refusal(10, 511 << 48, 4, 0)));
+    assert_eq!(deep(0x200000, 0x8000, &[(0, 16, 0x104023)]), Err(refusal_at(9, 1 << 52, 4, 0)));
+    assert_eq!(deep(0x200000, 0x8000, &[(0, 511, 0x100023)]), Err(refusal_at(10, 511 << 48, 4, 0)));
     let b = builder_at(GPA, 0x8000, 4, &[&DEEP[..], &[(0, 16, 0x108023)]].concat());
-    assert_eq!(b.build(0x8000, &[], FIVE), Err(refusal(11, 1 << 52, 4, 0)));
-    assert_eq!(deep(1 << 48, 0x8000, &[(0, 1, 0x500023)]), Err(refusal(17, 0x1000000200000, 4, 0)));
+    assert_eq!(b.build(0x8000, &[], FIVE), Err(refusal_at(11, 1 << 52, 4, 0)));
+    assert_eq!(deep(1 << 48, 0x8000, &[(0, 1, 0x500023)]), Err(refusal_at(17, 0x1000000200000, 4, 0)));
     // The root itself, one level above its entries.
     let b = builder_at(GPA, 0x8000, 4, &DEEP);
-    assert_eq!(b.build(0, &[], CpuPagingState { cr3: 0x104000, ..FIVE }), Err(refusal(9, 0, 5, 0)));
+    assert_eq!(b.build(0, &[], CpuPagingState { cr3: 0x104000, ..FIVE }), Err(refusal_at(9, 0, 5, 0)));
     // Bit 7 means nothing at levels 4 and 3, on the walk and on the way of a moved leaf.
     let marked = [(0, 0, 0x1010a3), (1, 0, 0x1020a3)];
     let up = [marked[0], marked[1], DEEP[2], (3, 2, 0x4000e3)];
@@ -154,10 +155,11 @@ fn the_bound_of_a_region() {
     // The builder has the wider bound until its build.
     let new = |gpa| PageTableRelocationBuilder::new(gpa, 0x8000, 0x4000).err();
     assert_eq!([LIMIT, WIDE_LIMIT - 0x8000].map(new), [None, None]);
-    assert_eq!(new(WIDE_LIMIT - 0x7000), Some(refusal(1, 0, 0, 0)));
+    assert_eq!(new(WIDE_LIMIT - 0x7000), Some(refusal_by(1, Rule::RegionPastBound { bound: WIDE_LIMIT })));
     let entries = [(0, 0, LIMIT + 0x1023), (1, 0, LIMIT + 0x2023), (2, 0, LIMIT + 0x3023), DEEP[3]];
     let b = builder_at(LIMIT, 0x8000, 4, &entries);
-    assert_eq!(b.clone().build(0, &[], CpuPagingState { cr3: LIMIT, cr4: OTHERS }), Err(refusal(1, 0, 0, 0)));
+    let refused = refusal_by(1, Rule::RegionPastBound { bound: LIMIT });
+    assert_eq!(b.clone().build(0, &[], CpuPagingState { cr3: LIMIT, cr4: OTHERS }), Err(refused));
     assert_eq!(b.build(0, &[], CpuPagingState { cr3: LIMIT, cr4: 0x1000 }), Ok(tables(4, &entries)));
 }
 
@@ -208,22 +210,23 @@ fn each_refusal_of_a_build() {
         let list: Vec<_> = ranges.iter().map(|r| (r.0..=r.1, r.2)).collect();
         builder(0x8000, &[&BASE, entries].concat()).build(table, &list, cpu).unwrap_err()
     };
-    assert_eq!(PageTableRelocationBuilder::new(1, 0x1000, 0x1000).unwrap_err(), refusal(1, 0, 0, 0));
-    assert_eq!(build(&[], 0, &[], CpuPagingState { cr3: 0xff000, ..CPU }), refusal(6, 0, 0, 0));
-    assert_eq!(build(&[], 1, &[], CPU), refusal(7, 0, 0, 0));
-    assert_eq!(build(&[], -0x101000, &[], CPU), refusal(7, 0, 0, 0));
-    assert_eq!(build(&[], 0, &[(5, 4, 0)], CPU), refusal(8, 0, 0, 0));
-    assert_eq!(build(&[], 0, &[(0, LIMIT, 0)], CPU), refusal(8, 0, 0, 0));
-    assert_eq!(build(&[], 0, &[(GPA, GPA, 0)], CPU), refusal(8, 0, 0, 0));
+    assert_eq!(PageTableRelocationBuilder::new(1, 0x1000, 0x1000).unwrap_err(), refusal_by(1, Rule::RegionNotPages));
+    assert_eq!(build(&[], 0, &[], CpuPagingState { cr3: 0xff000, ..CPU }), refusal(6));
+    assert_eq!(build(&[], 1, &[], CPU), refusal(7));
+    assert_eq!(build(&[], -0x101000, &[], CPU), refusal(7));
+    assert_eq!(build(&[], 0, &[(5, 4, 0)], CPU), refusal_by(8, Rule::RangeBackward { first: 5, last: 4 }));
+    let past = Rule::RangePastBound { first: 0, last: LIMIT, bound: LIMIT };
+    assert_eq!(build(&[], 0, &[(0, LIMIT, 0)], CPU), refusal_by(8, past));
+    assert_eq!(build(&[], 0, &[(GPA, GPA, 0)], CPU), refusal_by(8, Rule::RangeOverRegion { first: GPA, last: GPA }));
     let many: Vec<_> = (0..1025).map(|i| (PAGE + i, PAGE + i, 0)).collect();
-    assert_eq!(build(&[], 0, &many, CPU), refusal(8, 0, 0, 0));
-    assert_eq!(build(&[], 0, &[], CpuPagingState { cr3: 0x103000, ..CPU }), refusal(9, 0, 4, 0));
-    assert_eq!(build(&[(2, 2, 0x108023)], 0x8000, &[], CPU), refusal(11, 0x400000, 1, 0));
+    assert_eq!(build(&[], 0, &many, CPU), refusal_by(8, Rule::TooManyRanges));
+    assert_eq!(build(&[], 0, &[], CpuPagingState { cr3: 0x103000, ..CPU }), refusal_at(9, 0, 4, 0));
+    assert_eq!(build(&[(2, 2, 0x108023)], 0x8000, &[], CPU), refusal_at(11, 0x400000, 1, 0));
     let meet = [(PAGE, 0x3fffff, 0x400000), (0x400000, 0x5fffff, 0x200000)];
-    assert_eq!(build(&[(2, 2, 0x4000e3)], 0, &meet, CPU), refusal(14, 0x400000, 1, 0));
-    assert_eq!(build(&[(2, 0, 0x101023)], 0, &[], CPU), refusal(10, 0, 1, 0));
-    assert_eq!(build(&[(1, 1, 0x400000e3)], 0, &[(PAGE, 0x3fffff, 0x40000000)], CPU), refusal(16, 0x40200000, 2, 0));
-    assert_eq!(build(&[(1, 1, 0x500023)], 0, &[(PAGE, 0x3fffff, 0x40000000)], CPU), refusal(17, 0x40200000, 2, 0));
+    assert_eq!(build(&[(2, 2, 0x4000e3)], 0, &meet, CPU), refusal_at(14, 0x400000, 1, 0));
+    assert_eq!(build(&[(2, 0, 0x101023)], 0, &[], CPU), refusal_at(10, 0, 1, 0));
+    assert_eq!(build(&[(1, 1, 0x400000e3)], 0, &[(PAGE, 0x3fffff, 0x40000000)], CPU), refusal_at(16, 0x40200000, 2, 0));
+    assert_eq!(build(&[(1, 1, 0x500023)], 0, &[(PAGE, 0x3fffff, 0x40000000)], CPU), refusal_at(17, 0x40200000, 2, 0));
 }
 
 #[test]
@@ -234,7 +237,7 @@ fn lent_buffers() {
     let mut output = vec![0xa5; 0x9000];
     let mut scratch = vec![7; 5];
     let report = build_in(&image, &mut output, &mut scratch, &words, region, 0, CPU).unwrap();
-    assert_eq!(report, Report { used: 0x3000, moved: 1, merged: 0, reached: 3 });
+    assert_eq!(report, common::report(0x3000, 1, 0, 3));
     assert_eq!(output, tables(9, &[BASE[0], BASE[1], (2, 2, 0x4000e3)]));
     assert_eq!(scratch, [0; 5]);
     // Too short, each in turn: refused, and what was lent is zero.
@@ -244,13 +247,13 @@ fn lent_buffers() {
         assert!(output.iter().all(|b| *b == 0) && scratch.iter().all(|w| *w == 0));
         e
     };
-    assert_eq!(try_with(&image[1..], 0x8000, 3, &words), refusal(4, 0, 0, 0));
-    assert_eq!(try_with(&[], 0x8000, 3, &words), refusal(4, 0, 0, 0));
-    assert_eq!(try_with(&image, 0x7fff, 3, &words), refusal(4, 0, 0, 0));
-    assert_eq!(try_with(&image, 0, 0, &[]), refusal(4, 0, 0, 0));
-    assert_eq!(try_with(&image, 0x8000, 3, &words[..2]), refusal(8, 0, 0, 0));
-    assert_eq!(try_with(&image, 0x8000, 2, &words), refusal(15, PAGE, 1, 0));
-    assert_eq!(try_with(&image, 0x8000, 0, &words), refusal(15, PAGE, 1, 0));
+    assert_eq!(try_with(&image[1..], 0x8000, 3, &words), refusal(4));
+    assert_eq!(try_with(&[], 0x8000, 3, &words), refusal(4));
+    assert_eq!(try_with(&image, 0x7fff, 3, &words), refusal(4));
+    assert_eq!(try_with(&image, 0, 0, &[]), refusal(4));
+    assert_eq!(try_with(&image, 0x8000, 3, &words[..2]), refusal_by(8, Rule::RangesNotInThrees));
+    assert_eq!(try_with(&image, 0x8000, 2, &words), refusal_at(15, PAGE, 1, 0));
+    assert_eq!(try_with(&image, 0x8000, 0, &words), refusal_at(15, PAGE, 1, 0));
 }
 
 #[test]
@@ -284,25 +287,88 @@ fn any_numbers_are_taken() {
     }
 }
 
+/// A build takes its ranges in any order; those with one first address stay in theirs, so that the first comes first.
+#[test]
+fn the_builder_sorts_the_ranges() {
+    let entries = [&BASE[..], &[(2, 3, 0x6000e3), (2, 5, 0xa000e3)]].concat();
+    let build = |ranges: &[(u64, u64, i64)]| {
+        let list: Vec<_> = ranges.iter().map(|r| (r.0..=r.1, r.2)).collect();
+        builder(0x8000, &entries).build(0, &list, CPU)
+    };
+    let (low, middle, high) = ((PAGE, 0x3fffff, 0x200000), (0x600000, 0x7fffff, 0x200000), (0xa00000, 0xbfffff, -0xa00000));
+    let moved = tables(3, &[BASE[0], BASE[1], (2, 2, 0x4000e3), (2, 4, 0x8000e3), (2, 0, 0xe3)]);
+    for (a, b, c) in [(low, middle, high), (middle, high, low), (high, low, middle)] {
+        assert_eq!((build(&[a, b, c]), build(&[c, b, a])), (Ok(moved.clone()), Ok(moved.clone())));
+    }
+    let (long, short) = ((PAGE, 0x3fffff, 0), (PAGE, 0x2fffff, 0));
+    let not_above = |last, before| Err(refusal_by(8, Rule::RangeNotAbove { first: PAGE, last, before }));
+    assert_eq!(build(&[high, long, short]), not_above(0x2fffff, 0x3fffff));
+    assert_eq!(build(&[short, high, long]), not_above(0x3fffff, 0x2fffff));
+    // Lent ranges are taken as they come.
+    let region = Region { gpa: GPA, size: 0x8000, used: 0x3000 };
+    let words = [high, low].map(|r| [r.0, r.1, r.2 as u64]).concat();
+    let answer = build_in(&tables(3, &entries), &mut [0; 0x8000], &mut [0; 9], &words, region, 0, CPU);
+    assert_eq!(answer, Err(refusal_by(8, Rule::RangeNotAbove { first: PAGE, last: 0x3fffff, before: 0xbfffff })));
+}
+
 #[test]
 fn each_refusal_has_its_sentence() {
     let numbers = (1..=20).filter(|n| *n != 5).chain([34, Error::NO_MEMORY]);
-    let all: Vec<&str> = numbers.map(|n| refusal(n, 0, 0, 0).sentence()).collect();
+    let all: Vec<&str> = numbers.map(|n| refusal(n).sentence()).collect();
     let mut single = all.clone();
     single.sort();
     single.dedup();
     assert_eq!(single.len(), all.len());
     // Of a number that is out of use, or that no refusal has yet.
     for n in [5, 21, 33, 35] {
-        let unknown = refusal(n, 0, 0, 0);
+        let unknown = refusal(n);
         assert!(!all.contains(&unknown.sentence()));
         assert_eq!(unknown.to_string(), format!("the number is not known (refusal {n})"));
     }
-    let text = refusal(12, PAGE, 1, 0x201000).to_string();
-    assert!(text.contains("refusal 12 at 0x200000, level 1, offset 2101248"), "{text}");
-    // A place of zeros is one where the number has a place; a list too short has none.
-    for (n, end) in [(9, "(refusal 9 at 0x0, level 0)"), (15, "(refusal 15)"), (34, "(refusal 34)")] {
-        let text = refusal(n, 0, 0, 0).to_string();
-        assert!(text.ends_with(end), "{text}");
+}
+
+/// What follows the sentence: the number, the place and the rule.
+#[test]
+fn displayed() {
+    let after = |e: Error| e.to_string().strip_prefix(e.sentence()).expect("the sentence").to_string();
+    let text = "an offset is not a multiple of the size that the entry maps (refusal 12 at old address 0x200000, level 1, which \
+                maps 0x200000, offset -0x1000)";
+    assert_eq!(refusal_at(12, PAGE, 1, -0x1000).to_string(), text);
+    let lowest = "(refusal 13 at old address 0x0, level 0, which maps 0x1000, offset -0x8000000000000000)";
+    assert_eq!(after(refusal_at(13, 0, 0, i64::MIN)), format!(" {lowest}"));
+    // The old address to 15, the new one from 16 on, and an offset with 12 and 13 alone.
+    for n in 9..=19 {
+        let (whose, offset) = (if n <= 15 { "old" } else { "new" }, if n == 12 || n == 13 { ", offset 0x5" } else { "" });
+        let text = format!(" (refusal {n} at {whose} address 0x1000000200000, level 4, which maps 0x1000000000000{offset})");
+        assert_eq!(after(refusal_at(n, 0x1000000200000, 4, 5)), text);
     }
+    // A root of five levels; the page of a load; a list of a comparison.
+    assert_eq!(after(refusal_at(9, 0, 5, 0)), " (refusal 9 at old address 0x0, level 5)");
+    for n in [1, 8, 9, 15, 20, 34] {
+        assert_eq!(after(refusal(n)), format!(" (refusal {n})"));
+    }
+    let range = Rule::RangeNotAbove { first: 0x10, last: 0x1f, before: 0x12 };
+    let text = " (refusal 8): the range 0x10 to 0x1f does not begin above 0x12, where the one before it ends";
+    assert_eq!(after(refusal_by(8, range)), text);
+    let e: Box<dyn std::error::Error> = Box::new(refusal(6));
+    assert_eq!(e.to_string(), "cr3 is not in the region (refusal 6)");
+}
+
+#[test]
+fn places_of_refusals() {
+    let place = |e: Error| e.place.map(|p| (p.address, p.level, p.mapping_size()));
+    // Of the root, and of an entry whose place is all zeros.
+    let answer = builder(0x8000, &BASE).build(0, &[], CpuPagingState { cr3: 0x103000, ..CPU });
+    assert_eq!(answer.map_err(place), Err(Some((0, 4, Some(1 << 48)))));
+    let answer = builder_at(GPA, 0x8000, 4, &DEEP).build(0, &[], CpuPagingState { cr3: 0x104000, ..FIVE });
+    assert_eq!(answer.map_err(place), Err(Some((0, 5, None))));
+    let small = [BASE[0], BASE[1], (2, 0, 0x103023), (3, 0, 0x63)];
+    let answer = builder_at(GPA, 0x8000, 4, &small).build(0, &[(0..=0xfff, 0x1001)], CPU);
+    assert_eq!(answer.map_err(place), Err(Some((0, 0, Some(0x1000)))));
+    let region = Region { gpa: GPA, size: 0x8000, used: 0x4000 };
+    let answer = build_in(&tables(4, &small), &mut [0; 0x8000], &mut [], &[0, 0xfff, 0x1000], region, 0, CPU);
+    assert_eq!(answer, Err(refusal_at(15, 0, 0, 0)));
+    // A load's 9 and a comparison's 15 have none.
+    assert_eq!(builder(0x8000, &BASE).set_page_data(GPA + 0x3000, &[0; 4096]), Err(refusal(9)));
+    assert_eq!(compare_in(&[0; 4096], &[1; 4096], &mut []).unwrap_err(), refusal(15));
 }

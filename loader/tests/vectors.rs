@@ -1,6 +1,5 @@
-//! The Rust's recorded answers (crates/vectors/data) through the public calls, and those of entry operations through the library's.
-
-mod exports;
+//! The Rust's recorded answers (crates/vectors/data) through the public calls.
+#![cfg(feature = "alloc")]
 
 use archwend::*;
 use std::collections::BTreeMap;
@@ -31,18 +30,32 @@ fn words(bytes: &[u8]) -> BTreeMap<u64, u64> {
     bytes.chunks(8).map(word).enumerate().filter(|(_, w)| *w != 0).map(|(k, w)| (k as u64, w)).collect()
 }
 
+fn kind(number: u64, address: u64) -> PageTableEntryType {
+    match number {
+        0 => PageTableEntryType::Leaf4kPage(address),
+        1 => PageTableEntryType::Leaf2MbPage(address),
+        2 => PageTableEntryType::Leaf1GbPage(address),
+        3 => PageTableEntryType::Pde(address),
+        other => panic!("no such kind: {other:x}"),
+    }
+}
+
 /// A line of an operation on an entry, a level, the region's tables or a mask.
-fn operation(w: &[u64], region: (u64, u64, u64)) {
+fn operation(w: &[u64], region: Region) {
+    let mut entry = PageTableEntry::from(if w[0] == FRESH_LINE { 0 } else { w[1] });
     match w[0] {
-        FRESH_LINE => assert_eq!(exports::set_entry(0, w[1], w[2]), (0, w[3])),
-        SET_LINE => assert_eq!(exports::set_addr(w[1], w[2]), (0, w[3])),
-        INDEX_LINE => assert_eq!(exports::get_amd64_pte_index(w[1], w[2]), (0, w[3])),
-        READ_LINE => assert_eq!(exports::gpa(w[1]), (w[2], w[3])),
-        MASK_LINE => assert_eq!(exports::extract_individual_masks(w[1] as u32).1[w[2] as usize] as u64, w[3]),
-        BITS_LINE => assert_eq!((exports::is_present(w[1]), exports::is_large_page(w[1])), (w[2], w[3])),
-        CLEAR_LINE => assert_eq!(exports::clear(w[1]), w[2]),
-        SIZE_LINE => assert_eq!(exports::mapping_size(w[1]), (0, w[2])),
-        TABLE_LINE => assert_eq!(exports::calculate_page_table_index(region, w[1]), (w[2], w[3])),
+        FRESH_LINE => assert_eq!(entry.set_entry(kind(w[1], w[2])).map(|()| entry), Ok(w[3].into())),
+        SET_LINE => assert_eq!(entry.set_addr(w[2]).map(|()| entry), Ok(w[3].into())),
+        INDEX_LINE => assert_eq!(get_amd64_pte_index(w[1], w[2]), Ok(w[3])),
+        READ_LINE => assert_eq!(entry.gpa(), (w[2] == 1).then_some(w[3])),
+        MASK_LINE => assert_eq!(extract_individual_masks(w[1] as u32).nth(w[2] as usize).unwrap_or(0) as u64, w[3]),
+        BITS_LINE => assert_eq!((entry.is_present(), entry.is_large_page()), (w[2] == 1, w[3] == 1)),
+        CLEAR_LINE => {
+            entry.clear();
+            assert_eq!(u64::from(entry), w[2]);
+        }
+        SIZE_LINE => assert_eq!(mapping_size(w[1]), Ok(w[2])),
+        TABLE_LINE => assert_eq!(region.calculate_page_table_index(w[1]), (w[2] == 1).then_some(w[3] as usize)),
         other => panic!("no such line: {other:x}"),
     }
 }
@@ -51,16 +64,16 @@ fn operation(w: &[u64], region: (u64, u64, u64)) {
 fn the_recorded_answers() {
     let file = concat!(env!("CARGO_MANIFEST_DIR"), "/../crates/vectors/data/vectors");
     let text = std::fs::read_to_string(file).expect("the vectors");
-    let mut region = (0, 0, 0);
+    let mut region = Region::default();
     let (mut entries, mut ranges, mut wanted, mut loads) = (BTreeMap::new(), Vec::new(), BTreeMap::new(), Vec::new());
-    let (mut cpu, mut offset, mut place, mut answer) = (CpuPagingState { cr3: 0, cr4: 0 }, 0, None, [0; 3]);
+    let (mut cpu, mut offset, mut place, mut answer) = (CpuPagingState::default(), 0, None, [0; 3]);
     let (mut builds, mut operations) = (0, 0);
     for line in text.lines() {
         let mut w: Vec<u64> = line.split(' ').map(|x| u64::from_str_radix(x, 16).expect("hexadecimal")).collect();
         w.resize(4, 0);
         match w[0] {
             REGION_LINE => {
-                region = (w[1], w[2], w[3]);
+                region = Region { gpa: w[1], size: w[2], used: w[3] };
                 entries.clear();
                 ranges.clear();
                 wanted.clear();
@@ -78,10 +91,10 @@ fn the_recorded_answers() {
             LOAD_LINE => loads.push((w[1], w[2] as usize, w[3])),
             PLACE_LINE => place = Some((w[1], w[2], w[3] as i64)),
             BLANK_LINE => {
-                let mut b = PageTableRelocationBuilder::new(region.0, region.1, region.2).unwrap();
-                for page in 0..region.2 / 4096 {
+                let mut b = PageTableRelocationBuilder::new(region.gpa, region.size, region.used).unwrap();
+                for page in 0..region.used / 4096 {
                     let data: Vec<u8> = (0..512).flat_map(|i| entries.get(&(512 * page + i)).unwrap_or(&0).to_le_bytes()).collect();
-                    b.set_page_data(region.0 + 4096 * page, &data).unwrap();
+                    b.set_page_data(region.gpa + 4096 * page, &data).unwrap();
                 }
                 for (gpa, len, number) in &loads {
                     assert_eq!(b.set_page_data(*gpa, &vec![0x5a; *len]).err().map_or(0, |e| e.number), *number);
@@ -94,8 +107,8 @@ fn the_recorded_answers() {
                     }
                     Err(e) => {
                         assert_eq!(answer, [e.number, 0, 0]);
-                        let at = (e.place.address, 4096 << (9 * e.place.level), e.place.offset);
-                        assert!(place.map_or(true, |p| p == at));
+                        let at = e.place.map(|p| (p.address, p.mapping_size().expect("a level"), p.offset));
+                        assert!(place.is_none() || place == at);
                     }
                 }
                 builds += 1;

@@ -8,7 +8,7 @@ use Rattle.definitions.specs.Inputs.{Job}
 use Rattle.definitions.specs.declared.Region.{Region}
 use Rattle.definitions.specs.Entry.{Answer, setAddress, readAddress, mappedSize, levelIndex}
 use Rattle.definitions.specs.Ranges.{tableIn}
-use Rattle.archwend.specs.Exports.{Answers, LoadsPage, ComparesImages}
+use Rattle.archwend.specs.Exports.{Answers, LoadsPage, ComparesImages, NamesInterface}
 use Rattle.archwend.specs.Entries.{Leaves, Finds, freshOf, SetsFresh, SetsAddr, ReadsAddr, FlagsPresent, FlagsLarge, ClearsWord}
 use Rattle.archwend.specs.Entries.{SizesLevel, IndexesLevel, FindsTable, SplitsInto}
 
@@ -61,6 +61,9 @@ one-large e n n′ p q = p ∙ sym q
 
 pub one-cleared : (w w′ : ℕ) → ClearsWord w → ClearsWord w′ → w ≡ w′
 one-cleared w w′ p q = p ∙ sym q
+
+pub one-interface : (n n′ : ℕ) → NamesInterface n → NamesInterface n′ → n ≡ n′
+one-interface n n′ p q = p ∙ sym q
 
 -- the count, and the array
 module _ (mask n n′ : ℕ) (xs xs′ : List ℕ) where

@@ -35,3 +35,11 @@ pub record LoadsPage (cr4 : ℕ) (r : Region) (image : List ℕ) (gpa : ℕ) (pa
 pub record ComparesImages (older newer : List ℕ) (room : ℕ) (answer list : List ℕ) : Type 0 where
   pub answered : answer ≡ answerWords (compared older newer room)
   pub listed : list ≡ compared older newer room .list
+
+-- §2.13: "it is 1"
+abbrev pub interface : ℕ
+interface = 1
+
+-- `archwend_interface_1`
+abbrev pub NamesInterface : ℕ → Type 0
+NamesInterface n = n ≡ interface

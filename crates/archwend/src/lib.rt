@@ -3,9 +3,12 @@ use build::CpuPagingState;
 use definitions::Region;
 ghost use lib.ListN.{length};
 ghost use Rattle.definitions.specs.Build.{jobOf};
-ghost use Rattle.archwend.specs.Exports.{regionAt, Answers, LoadsPage, ComparesImages};
+ghost use Rattle.archwend.specs.Exports.{regionAt, Answers, LoadsPage, ComparesImages, NamesInterface};
 
 pub mod entries;
+
+// The version of what is exported; the name of `archwend_interface_1` carries it.
+const INTERFACE: u64 = 1;
 
 // Builds the relocated tables of the image into the output; report: number, used, moved, merged, reached, and the place's
 // address, level and offset.
@@ -82,4 +85,12 @@ pub extern "C" fn archwend_compare(
     ensures { λ _. ⌜ ComparesImages (now (older .entry)) (now (newer .entry)) (length (now (list .entry))) (now (answer .exit)) (now (list .exit)) ⌝ }
 {
     compare::compare(older, newer, list, answer);
+}
+
+// What was built for another version asks for another name, and so does not link.
+#[no_mangle]
+pub extern "C" fn archwend_interface_1() -> u64
+    ensures { λ n. ⌜ NamesInterface n ⌝ }
+{
+    INTERFACE
 }

@@ -1,19 +1,19 @@
 // relocate IMAGE RANGES OUTPUT GPA SIZE CR3 CR4 OFFSET: moves the page tables of one file into another, and reports.
 use build::CpuPagingState;
 use definitions::Region;
-use definitions::Report;
 use files::Filled;
-use libc::STDOUT_FILENO;
+use files::IMAGE_BYTES;
+use files::OUTPUT_BYTES;
+use files::RANGE_WORDS;
+use files::SCRATCH_WORDS;
 use text::Number;
+ghost use mathlib.Core.Path.{_≡_};
+ghost use Prim.Native.Nat.{_*_, _%_};
 
-// 512 tables; 1,024 ranges of 24 bytes; 131,072 moved leaves of three words.
-const IMAGE_MAX: usize = 2097152;
+// A record of RANGES is three words.
+const RECORD_BYTES: usize = 24;
 
-const RECORDS_MAX: usize = 24576;
-
-const WORDS_MAX: usize = 3072;
-
-const ROOM: usize = 393216;
+const RECORDS_BYTES: usize = RANGE_WORDS * 8;
 
 // The numbers of the command line.
 struct Asked {
@@ -30,40 +30,37 @@ enum Given {
     Refused,
 }
 
-// How reading a file to its end went.
-enum Loaded {
-    Bytes(usize),
-    Failed,
-    TooLong,
-}
-
-// The first n words, or all where there are fewer.
-fn front_words(s: &[u64], n: usize) -> &[u64] {
-    if n <= s.len() { &s[0..n] } else { s }
-}
-
 // Argument `at` as a number; one that is none is said on standard error.
 fn number(at: usize, what: &[u8]) -> Number {
     let mut text = io::buffer();
     let n = os::arg(at, &mut text);
-    let read = text::parse_hex(&text[..n]);
-    if let Number::Bad = read {
-        files::complain(what, b"not a hexadecimal number of at most 64 bits");
+    if text::marked(&text[..n]) {
+        let read = text::parse_hex(&text[..n]);
+        if let Number::Value(_) = read {
+            return read;
+        }
     }
-    read
+    files::complain(
+        what,
+        b"not a number in hexadecimal with 0x, of at most 64 bits",
+    );
+    Number::Bad
 }
 
 fn table_offset(at: usize, what: &[u8]) -> Number {
     let mut text = io::buffer();
     let n = os::arg(at, &mut text);
-    let read = text::parse_signed(&text[..n]);
-    if let Number::Bad = read {
-        files::complain(
-            what,
-            b"not a hexadecimal number of at most 64 bits, or one after '-' of at most 2^63",
-        );
+    if text::marked(&text[..n]) {
+        let read = text::parse_signed(&text[..n]);
+        if let Number::Value(_) = read {
+            return read;
+        }
     }
-    read
+    files::complain(
+        what,
+        b"not a number in hexadecimal with 0x, of at most 64 bits, or one after '-' of at most 2^63",
+    );
+    Number::Bad
 }
 
 fn numbers() -> Given {
@@ -92,45 +89,6 @@ fn numbers() -> Given {
     Given::All(asked)
 }
 
-// The buffer is full: whether the file ends here too.
-fn at_end(fd: i32, n: usize) -> Loaded {
-    let mut byte = [0u8; 1];
-    let Filled::Bytes(more) = files::fill(fd, &mut byte) else {
-        return Loaded::Failed;
-    };
-    if more == 0 {
-        Loaded::Bytes(n)
-    } else {
-        Loaded::TooLong
-    }
-}
-
-fn read_to_end(fd: i32, buf: &mut [u8]) -> Loaded {
-    let Filled::Bytes(n) = files::fill(fd, buf) else {
-        return Loaded::Failed;
-    };
-    if n < buf.len() {
-        return Loaded::Bytes(n);
-    }
-    at_end(fd, n)
-}
-
-// Reads the file that argument `at` names; what goes wrong is said on standard error.
-fn load(at: usize, what: &[u8], limit: &[u8], buf: &mut [u8]) -> Loaded {
-    let fd = files::open(at, what);
-    if fd < 0 {
-        return Loaded::Failed;
-    }
-    let loaded = read_to_end(fd, buf);
-    match loaded {
-        Loaded::Failed => os::fail(what),
-        Loaded::TooLong => files::complain(what, limit),
-        Loaded::Bytes(_) => (),
-    }
-    libc::close(fd);
-    loaded
-}
-
 // The records as words, and zeros past their end.
 fn decode(records: &[u8], words: &mut [u64]) {
     let mut i: usize = 0;
@@ -140,87 +98,25 @@ fn decode(records: &[u8], words: &mut [u64]) {
     }
 }
 
+// How many words a build is lent for so many bytes: three divides them just where the records are whole.
+fn words_of(n: usize) -> usize
+    ensures { λ r. ⌜ (n % 24 ≡ 0 → 8 * r ≡ n) × (r % 3 ≡ 0 → n % 24 ≡ 0) ⌝ }
+{
+    let whole = n / RECORD_BYTES * 3;
+    if n % RECORD_BYTES == 0 {
+        return whole;
+    }
+    whole + 1
+}
+
 // The ranges of the second argument, and how many words they are.
-fn load_ranges(words: &mut [u64]) -> Loaded {
-    let mut records = [0u8; RECORDS_MAX];
-    let loaded = load(
-        2,
-        b"relocate: RANGES",
-        b"more than 1024 records",
-        &mut records,
-    );
-    let Loaded::Bytes(n) = loaded else {
-        return loaded;
+fn load_ranges(words: &mut [u64]) -> Filled {
+    let mut records = [0u8; RECORDS_BYTES];
+    let Filled::Bytes(n) = files::read(2, b"relocate: RANGES", &mut records) else {
+        return Filled::Failed;
     };
-    if n % 24 != 0 {
-        files::complain(
-            b"relocate: RANGES",
-            b"not a whole number of 24-byte records",
-        );
-        return Loaded::Failed;
-    }
     decode(files::front(&records, n), words);
-    Loaded::Bytes(n / 8)
-}
-
-// Writes the rebuilt tables to the third argument.
-fn save(tables: &[u8]) -> bool {
-    let mut path = io::buffer();
-    let n = os::arg(3, &mut path);
-    if os::errno() != 0 {
-        os::fail(b"relocate: OUTPUT");
-        return false;
-    }
-    let fd = os::open_overwrite(&path[..n]);
-    if fd < 0 {
-        os::fail(b"relocate: OUTPUT");
-        return false;
-    }
-    let is_written = io::write_all(fd, tables);
-    if !is_written {
-        os::fail(b"relocate: OUTPUT");
-    }
-    libc::close(fd);
-    is_written
-}
-
-fn put(text: &[u8]) -> bool {
-    io::write_all(STDOUT_FILENO, text)
-}
-
-fn line(name: &[u8], value: u64) -> bool {
-    put(name);
-    io::print_hex(STDOUT_FILENO, value, 1);
-    put(b"\n")
-}
-
-fn print_report(report: Report) -> bool {
-    let place = report.place;
-    put(b"number ");
-    io::print_decimal(STDOUT_FILENO, report.number);
-    put(b" ");
-    sentences::write(STDOUT_FILENO, report.number);
-    put(b"\n");
-    line(b"used 0x", report.used);
-    line(b"moved 0x", report.moved);
-    line(b"merged 0x", report.merged);
-    line(b"reached 0x", report.reached);
-    line(b"address 0x", place.address);
-    line(b"level 0x", place.level);
-    line(b"offset 0x", place.offset)
-}
-
-// The tables are written before the report says that they are.
-fn finish(out: &[u8], report: Report) {
-    if report.number == 0 {
-        let is_saved = save(files::front(out, report.used as usize));
-        if !is_saved {
-            return;
-        }
-    }
-    if !print_report(report) {
-        os::fail(b"relocate: the report");
-    }
+    Filled::Bytes(words_of(n))
 }
 
 // The job, once its files are read.
@@ -235,32 +131,35 @@ fn run(image: &[u8], out: &mut [u8], scratch: &mut [u64], ranges: &[u64], asked:
         cr4: asked.cr4,
     };
     let report = build::build(image, out, scratch, ranges, r, cpu, asked.offset);
-    finish(out, report);
+    reports::finish(3, b"relocate: OUTPUT", out, report);
 }
 
 fn relocate(image: &mut [u8], out: &mut [u8], scratch: &mut [u64]) {
     let Given::All(asked) = numbers() else {
         return;
     };
-    let Loaded::Bytes(used) = load(1, b"relocate: IMAGE", b"longer than 2097152 bytes", image)
-    else {
+    let Filled::Bytes(used) = files::read(1, b"relocate: IMAGE", image) else {
         return;
     };
-    let mut words = [0u64; WORDS_MAX];
-    let Loaded::Bytes(count) = load_ranges(&mut words) else {
+    let mut words = [0u64; RANGE_WORDS];
+    let Filled::Bytes(count) = load_ranges(&mut words) else {
         return;
     };
     run(
         files::front(image, used),
         out,
         scratch,
-        front_words(&words, count),
+        files::front_words(&words, count),
         asked,
     );
 }
 
 // The buffers as slices: their lengths are their types'.
-fn lend(image: &mut [u8; IMAGE_MAX], out: &mut [u8; IMAGE_MAX], scratch: &mut [u64; ROOM]) {
+fn lend(
+    image: &mut [u8; IMAGE_BYTES],
+    out: &mut [u8; OUTPUT_BYTES],
+    scratch: &mut [u64; SCRATCH_WORDS],
+) {
     relocate(image, out, scratch);
 }
 
@@ -272,8 +171,8 @@ fn main() {
         );
         return;
     }
-    let mut image = [0u8; IMAGE_MAX];
-    let mut out = [0u8; IMAGE_MAX];
-    let mut scratch = [0u64; ROOM];
+    let mut image = [0u8; IMAGE_BYTES];
+    let mut out = [0u8; OUTPUT_BYTES];
+    let mut scratch = [0u64; SCRATCH_WORDS];
     lend(&mut image, &mut out, &mut scratch);
 }

@@ -1,6 +1,6 @@
 -- Laws of digits and of the values that they make.
 -- Assumes nothing.
-use mathlib.Core.Bool.{cond}
+use mathlib.Core.Bool.{true, false}
 use mathlib.Core.Path.{_≡_, refl, sym}
 use mathlib.Core.List.{List, [], _∷_}
 use mathlib.Core.Option.{none, some}
@@ -12,7 +12,7 @@ use borrow.Author.Tests.{lt-ltb, le-ltb, le-leb, lt-leb, eq-eqb, ne-eqb}
 use lib.Dec.{eqb}
 use lib.ListN.{length, getD, take, drop, length-drop, drop-of-length-le}
 use lib.Seq.{drop-cons, take-all}
-use Rattle.text.specs.Hex.{digitOf, follow, atMost, digitsOf, hexOf, negated, signedOf}
+use Rattle.text.specs.Hex.{digitOf, follow, atMost, digitsOf, hexOf, negated, signedOf, prefixedOf, markedOf}
 
 -- what a byte counts, by where it stands
 module _ (b : ℕ) where
@@ -119,29 +119,45 @@ module _ {s : List ℕ} {v i : ℕ} (c : Come s v i) where
 pub rest : (s : List ℕ) (k : ℕ) → take (length s - k) (drop k s) ≡ drop k s
 rest s k = take-all (length s - k) (drop k s) (omega (arith, length-drop k s))
 
+-- the cases of 0x
+module _ (s : List ℕ) where
+  pub unprefixed-short : length s ≤ 2 → prefixedOf s ≡ false
+  unfolding prefixedOf
+  unprefixed-short h = rw (le-leb (length s) 2 h)
+
+  module _ (l : 2 < length s) where
+    pub unprefixed-other : (getD s 0 0 ≡ 48 → ⊥) → prefixedOf s ≡ false
+    unfolding prefixedOf
+    unprefixed-other h = rw (lt-leb (length s) 2 l, ne-eqb (getD s 0 0) 48 h)
+
+    pub prefixed-by : getD s 0 0 ≡ 48 → prefixedOf s ≡ eqb (getD s 1 0) 120
+    unfolding prefixedOf
+    prefixed-by z = rw (lt-leb (length s) 2 l, eq-eqb (getD s 0 0) 48 z)
+
+  pub prefixed-long : prefixedOf s ≡ true → 2 < length s
+  unfolding prefixedOf
+  prefixed-long e = elim (decLt 2 (length s)) [
+    | yes l ↦ l
+    | no n ↦ (
+        let f = unprefixed-short (omega arith) in
+        let o : _≡_ {A = ℕ} 0 1 = cc in
+        absurd (omega arith)
+        )
+  ]
+
 -- the cases of a text in hexadecimal
 module _ (s : List ℕ) where
   pub empty : length s ≡ 0 → hexOf s ≡ none
   unfolding hexOf
   empty h = rw (eq-eqb (length s) 0 h)
 
-  pub short : (length s ≡ 0 → ⊥) → length s ≤ 2 → hexOf s ≡ digitsOf s
+  pub plain : (length s ≡ 0 → ⊥) → prefixedOf s ≡ false → hexOf s ≡ digitsOf s
   unfolding hexOf
-  short n h = rw (ne-eqb (length s) 0 n, le-leb (length s) 2 h)
+  plain n e = rw (ne-eqb (length s) 0 n, e)
 
-  module _ (l : 2 < length s) where
-    long : hexOf s ≡ cond (eqb (getD s 0 0) 48) (cond (eqb (getD s 1 0) 120) (digitsOf (drop 2 s)) (digitsOf s)) (digitsOf s)
-    unfolding hexOf
-    long = rw (ne-eqb (length s) 0 (λ e. omega arith), lt-leb (length s) 2 l)
-
-    pub plain : (getD s 0 0 ≡ 48 → ⊥) → hexOf s ≡ digitsOf s
-    plain h = rw (long, ne-eqb (getD s 0 0) 48 h)
-
-    pub zeroed : getD s 0 0 ≡ 48 → (getD s 1 0 ≡ 120 → ⊥) → hexOf s ≡ digitsOf s
-    zeroed z h = rw (long, eq-eqb (getD s 0 0) 48 z, ne-eqb (getD s 1 0) 120 h)
-
-    pub prefixed : getD s 0 0 ≡ 48 → getD s 1 0 ≡ 120 → hexOf s ≡ digitsOf (drop 2 s)
-    prefixed z h = rw (long, eq-eqb (getD s 0 0) 48 z, eq-eqb (getD s 1 0) 120 h)
+  pub after-prefix : (length s ≡ 0 → ⊥) → prefixedOf s ≡ true → hexOf s ≡ digitsOf (drop 2 s)
+  unfolding hexOf
+  after-prefix n e = rw (ne-eqb (length s) 0 n, e)
 
   -- and of one that may have a sign
   pub no-sign : length s ≡ 0 → signedOf s ≡ none
@@ -170,3 +186,17 @@ module _ (s : List ℕ) where
     minus-good m r e b f w =
         let q : (2 ^ 64 - m) % 2 ^ 64 ≡ r = omega arith in
         rw (minus, ← e, le-leb m (2 ^ 63) b, q)
+
+  -- and after '-' too
+  pub unmarked : length s ≡ 0 → markedOf s ≡ false
+  unfolding markedOf
+  unmarked h = rw (eq-eqb (length s) 0 h)
+
+  module _ (n : length s ≡ 0 → ⊥) where
+    pub marked-plain : (getD s 0 0 ≡ 45 → ⊥) → markedOf s ≡ prefixedOf s
+    unfolding markedOf
+    marked-plain h = rw (ne-eqb (length s) 0 n, ne-eqb (getD s 0 0) 45 h)
+
+    pub marked-signed : getD s 0 0 ≡ 45 → markedOf s ≡ prefixedOf (drop 1 s)
+    unfolding markedOf
+    marked-signed h = rw (ne-eqb (length s) 0 n, eq-eqb (getD s 0 0) 45 h)

@@ -1,6 +1,6 @@
 -- What a text says: a number in hexadecimal, or nothing.
 -- Assumes nothing.
-use mathlib.Core.Bool.{cond}
+use mathlib.Core.Bool.{Bool, false, cond}
 use mathlib.Core.List.{List, [], _∷_}
 use mathlib.Core.Option.{Option, none, some}
 use Prim.Native.Nat.{ℕ, _+_, _-_, _*_, _%_, _^_}
@@ -33,12 +33,13 @@ atMost most (some v) = cond (leb v most) (some v) none
 unfoldable pub digitsOf : List ℕ → Option ℕ
 digitsOf s = atMost (2 ^ 64 - 1) (follow 0 s)
 
--- after 0x, which more must follow, or from the start
+-- 0x, and more follows
+unfoldable pub prefixedOf : List ℕ → Bool
+prefixedOf s = cond (leb (length s) 2) false (cond (eqb (getD s 0 0) 48) (eqb (getD s 1 0) 120) false)
+
+-- after 0x, or from the start
 unfoldable pub hexOf : List ℕ → Option ℕ
-hexOf s =
-    cond (eqb (length s) 0) none
-    (cond (leb (length s) 2) (digitsOf s)
-    (cond (eqb (getD s 0 0) 48) (cond (eqb (getD s 1 0) 120) (digitsOf (drop 2 s)) (digitsOf s)) (digitsOf s)))
+hexOf s = cond (eqb (length s) 0) none (cond (prefixedOf s) (digitsOf (drop 2 s)) (digitsOf s))
 
 -- the word that, with a magnitude added, is 0 modulo 2^64
 unfoldable pub negated : Option ℕ → Option ℕ
@@ -50,6 +51,12 @@ unfoldable pub signedOf : List ℕ → Option ℕ
 signedOf s =
     cond (eqb (length s) 0) none
     (cond (eqb (getD s 0 0) 45) (negated (atMost (2 ^ 63) (hexOf (drop 1 s)))) (hexOf s))
+
+-- 0x, and more follows, after '-' too
+unfoldable pub markedOf : List ℕ → Bool
+markedOf s =
+    cond (eqb (length s) 0) false
+    (cond (eqb (getD s 0 0) 45) (prefixedOf (drop 1 s)) (prefixedOf s))
 
 -- the code's answer as a number or nothing
 abbrev pub numberOf : Number → Option ℕ

@@ -1,6 +1,6 @@
 // Numbers as people write them: hexadecimal, with or without 0x.
 ghost use mathlib.Core.Path.{_≡_};
-ghost use Rattle.text.specs.Hex.{digitOf, digitsOf, hexOf, signedOf, numberOf};
+ghost use Rattle.text.specs.Hex.{digitOf, digitsOf, hexOf, signedOf, prefixedOf, markedOf, numberOf};
 
 // What a text says: a number below 2^64, or none.
 pub enum Number {
@@ -60,6 +60,19 @@ fn digits(s: &[u8]) -> Number
     Number::Value(v)
 }
 
+// Whether a text is 0x with more after it.
+fn prefixed(s: &[u8]) -> bool
+    ensures { λ r. ⌜ r ≡ prefixedOf (now (s .entry)) ⌝ }
+{
+    if s.len() <= 2 {
+        return false;
+    }
+    if s[0] != b'0' {
+        return false;
+    }
+    s[1] == b'x'
+}
+
 // A number below 2^64 in hexadecimal.
 pub fn parse_hex(s: &[u8]) -> Number
     ensures { λ r. ⌜ numberOf r ≡ hexOf (now (s .entry)) ⌝ }
@@ -67,16 +80,10 @@ pub fn parse_hex(s: &[u8]) -> Number
     if s.len() == 0 {
         return Number::Bad;
     }
-    if s.len() <= 2 {
-        return digits(s);
+    if prefixed(s) {
+        return digits(&s[2..]);
     }
-    if s[0] != b'0' {
-        return digits(s);
-    }
-    if s[1] != b'x' {
-        return digits(s);
-    }
-    digits(&s[2..])
+    digits(s)
 }
 
 // A number as parse_hex reads it, or one to -2^63 after '-', as a word in two's complement.
@@ -97,4 +104,17 @@ pub fn parse_signed(s: &[u8]) -> Number
         return Number::Bad;
     }
     Number::Value(std::num::wrapping_sub_u64(0, m))
+}
+
+// Whether a text says by 0x that it is hexadecimal, after '-' too.
+pub fn marked(s: &[u8]) -> bool
+    ensures { λ r. ⌜ r ≡ markedOf (now (s .entry)) ⌝ }
+{
+    if s.len() == 0 {
+        return false;
+    }
+    if s[0] != b'-' {
+        return prefixed(s);
+    }
+    prefixed(&s[1..])
 }

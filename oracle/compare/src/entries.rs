@@ -3,10 +3,7 @@
 //! Two of the original's functions are private, and are run through what is public: its mapped sizes through the place of a 12, and
 //! its tables' numbers through the root that a build takes, and through `contains`.
 
-// The declarations stand with the loader's tests until its crate has calls of its own.
-#[path = "../../../loader/tests/exports/mod.rs"]
-pub mod exports;
-
+use archwend::Region;
 use jobs::document::{span, FIELD};
 use jobs::random::Random;
 use jobs::{bytes, words, Built, Job, Load};
@@ -19,6 +16,58 @@ use zerocopy::{FromBytes, FromZeros, IntoBytes, Unalign};
 
 /// The refusal of entry operations.
 pub const REFUSED: u64 = archwend::Error::ENTRY;
+
+// ---- the library's, as a number and a word; the word is the entry as it is left, or 0
+
+pub mod library {
+    use archwend::{Error, PageTableEntry, PageTableEntryType as Kind, Region};
+
+    fn answer(result: Result<u64, Error>, refused: u64) -> (u64, u64) {
+        result.map_or_else(|e| (e.number, refused), |w| (0, w))
+    }
+
+    fn found(value: Option<u64>) -> (u64, u64) {
+        value.map_or((0, 0), |v| (1, v))
+    }
+
+    fn changed(word: u64, change: impl FnOnce(&mut PageTableEntry) -> Result<(), Error>) -> (u64, u64) {
+        let mut e = PageTableEntry::from(word);
+        let number = change(&mut e).err().map_or(0, |e| e.number);
+        (number, e.into())
+    }
+
+    /// The kinds are numbered as in the header.
+    pub fn set_entry(word: u64, kind: u64, a: u64) -> (u64, u64) {
+        let kinds = [Kind::Leaf4kPage(a), Kind::Leaf2MbPage(a), Kind::Leaf1GbPage(a), Kind::Pde(a)];
+        changed(word, |e| e.set_entry(kinds[kind as usize]))
+    }
+
+    pub fn set_addr(word: u64, addr: u64) -> (u64, u64) {
+        changed(word, |e| e.set_addr(addr))
+    }
+
+    pub fn clear(word: u64) -> u64 {
+        let mut e = PageTableEntry::from(word);
+        e.clear();
+        e.into()
+    }
+
+    pub fn gpa(word: u64) -> (u64, u64) {
+        found(PageTableEntry::from(word).gpa())
+    }
+
+    pub fn mapping_size(level: u64) -> (u64, u64) {
+        answer(archwend::mapping_size(level), 0)
+    }
+
+    pub fn get_amd64_pte_index(gva: u64, level: u64) -> (u64, u64) {
+        answer(archwend::get_amd64_pte_index(gva, level), 0)
+    }
+
+    pub fn calculate_page_table_index(region: Region, address: u64) -> (u64, u64) {
+        found(region.calculate_page_table_index(address).map(|i| i as u64))
+    }
+}
 
 // ---- the original's
 
@@ -146,23 +195,21 @@ impl Tally {
 /// One call of each operation.
 pub fn round(r: &mut Random, t: &mut Tally) {
     let word = r.word();
-    t.same("is_present", word, exports::is_present(word), entry(word).is_present() as u64);
-    t.same("is_large_page", word, exports::is_large_page(word), entry(word).is_large_page() as u64);
-    t.same("gpa", word, exports::gpa(word), gpa(word));
-    t.same("clear", word, Some(exports::clear(word)), clear(word));
+    t.same("is_present", word, archwend::PageTableEntry::from(word).is_present(), entry(word).is_present());
+    t.same("is_large_page", word, archwend::PageTableEntry::from(word).is_large_page(), entry(word).is_large_page());
+    t.same("gpa", word, library::gpa(word), gpa(word));
+    t.same("clear", word, Some(library::clear(word)), clear(word));
     set_one(r, t, word);
     let (gva, level) = (r.word(), r.below(5));
-    t.same("get_amd64_pte_index", (gva, level), exports::get_amd64_pte_index(gva, level), (0, index(gva, level as u8).expect("no panic")));
+    t.same("get_amd64_pte_index", (gva, level), library::get_amd64_pte_index(gva, level), (0, index(gva, level as u8).expect("no panic")));
     size_one(r, t);
     table_one(r, t);
     let mut mask = r.word() as u32;
     if r.percent(50) {
         mask &= r.word() as u32;
     }
-    let list = original::extract_individual_masks(mask);
-    let mut padded = [0; 32];
-    padded[..list.len()].copy_from_slice(&list);
-    t.same("extract_individual_masks", mask, exports::extract_individual_masks(mask), (list.len() as u64, padded));
+    let ours = archwend::extract_individual_masks(mask).collect::<Vec<_>>();
+    t.same("extract_individual_masks", mask, ours, original::extract_individual_masks(mask));
 }
 
 /// In the shared domain an address has no bit past 51.
@@ -176,12 +223,12 @@ fn set_one(r: &mut Random, t: &mut Tally, word: u64) {
     if r.percent(5) {
         a |= 1 << r.below(12);
     }
-    t.refusable("set_entry", (word, kind, a), exports::set_entry(word, kind, a), set_entry(word, kind, a));
+    t.refusable("set_entry", (word, kind, a), library::set_entry(word, kind, a), set_entry(word, kind, a));
     let mut a = r.word() & FIELD;
     if r.percent(5) {
         a |= 1 << r.of(&[0, 11, 52, 63]);
     }
-    t.refusable("set_addr", (word, a, 0), exports::set_addr(word, a), set_addr(word, a));
+    t.refusable("set_addr", (word, a, 0), library::set_addr(word, a), set_addr(word, a));
 }
 
 /// A leaf's address is the sum of what its entries' levels map, each times the entry's place; so that level 3 shows too.
@@ -189,7 +236,7 @@ fn size_one(r: &mut Random, t: &mut Tally) {
     let path: Vec<usize> = (0..r.within(2, 4)).map(|_| r.below(512) as usize).collect();
     let level = 4 - path.len() as u64;
     let size = |l: u64| {
-        let (n, s) = exports::mapping_size(l);
+        let (n, s) = library::mapping_size(l);
         assert_eq!(n, 0);
         s
     };
@@ -212,7 +259,7 @@ pub fn some_address(r: &mut Random, gpa: u64, count: u64) -> u64 {
 fn table_one(r: &mut Random, t: &mut Tally) {
     let (gpa, count) = some_region(r);
     let address = some_address(r, gpa, count);
-    let ours = exports::calculate_page_table_index((gpa, count * 4096, count * 4096), address);
+    let ours = library::calculate_page_table_index(Region { gpa, size: count * 4096, used: count * 4096 }, address);
     t.same("calculate_page_table_index", (gpa, count, address), ours, root_at(gpa, count, address));
     // Any region that ends below 2^64, and an address in it, at its ends or anywhere.
     let size = r.word() >> r.below(64);
@@ -225,5 +272,6 @@ fn table_one(r: &mut Random, t: &mut Tally) {
     };
     // Its image is of `used` bytes: none.
     let theirs = PageTableRelocationBuilder::new(gpa, size, 0, 0, Vtl::Vtl0).contains(address);
-    t.same("contains", (gpa, size, address), exports::calculate_page_table_index((gpa, size, 0), address).0, theirs as u64);
+    let ours = library::calculate_page_table_index(Region { gpa, size, used: 0 }, address).0;
+    t.same("contains", (gpa, size, address), ours, theirs as u64);
 }

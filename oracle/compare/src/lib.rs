@@ -85,7 +85,7 @@ pub fn load_difference(ours: &Ours, theirs: &Answer) -> Option<String> {
 }
 
 pub fn build_difference(ours: &Ours, theirs: &Answer) -> Option<String> {
-    let place = |e: &Error| (e.place.address, document::span(e.place.level as usize), e.place.offset);
+    let place = |e: &Error| e.place.map(|p| (p.address, document::span(p.level as usize), p.offset));
     match (&ours.built, &theirs.built) {
         (Ok((r, bytes)), Built::Tables { bytes: b, merged }) => {
             if bytes != b {
@@ -96,7 +96,7 @@ pub fn build_difference(ours: &Ours, theirs: &Answer) -> Option<String> {
                 None
             }
         }
-        (Err(e), Built::Refused(12, Some(p))) if e.number == 12 && place(e) == *p => None,
+        (Err(e), Built::Refused(12, Some(p))) if e.number == 12 && place(e) == Some(*p) => None,
         (Err(e), Built::Refused(n, None)) if e.number == *n => None,
         (Ok(_), Built::Refused(n, _)) => Some(format!("build: ours 0, the original {n}")),
         (Ok(_), Built::Panic(m)) => Some(format!("build: ours 0, the original panics: {m}")),

@@ -2,7 +2,8 @@
 //! recorded: `ours`, and `wraps` or `checks` for the original in this build. `record` prints the file with today's answers.
 
 use compare::classes::{recorded, WHO};
-use compare::entries::{self, exports};
+use archwend::Region;
+use compare::entries::{self, library};
 use compare::Ours;
 use jobs::{can_run, run, show, Answer, Built};
 use original::hv_defs::Vtl;
@@ -25,10 +26,10 @@ fn our_line(o: &Ours) -> String {
     let loads = o.loads.iter().map(|n| Ok(*n)).collect();
     let tail = match &o.built {
         Ok((r, bytes)) => return line(&Answer { loads, built: Built::Tables { bytes: bytes.clone(), merged: r.merged } }),
-        Err(e) if e.place != Default::default() => {
-            format!(" at {:x} level {} offset {:x}", e.place.address, e.place.level, e.place.offset as u64)
-        }
-        Err(_) => String::new(),
+        Err(e) => match e.place.filter(|p| *p != Default::default()) {
+            Some(p) => format!(" at {:x} level {} offset {:x}", p.address, p.level, p.offset as u64),
+            None => String::new(),
+        },
     };
     line(&Answer { loads, built: Built::Refused(o.number(), None) }) + &tail
 }
@@ -70,9 +71,9 @@ fn entry_operations() -> u32 {
     let old = 0x1063;
     let kept = (entries::REFUSED, old);
     let none = (entries::REFUSED, 0);
-    let set = |kind, a| (exports::set_entry(old, kind, a), entries::set_entry(old, kind, a));
-    let addr = |a| (exports::set_addr(old, a), entries::set_addr(old, a));
-    let at = |gva, level| (exports::get_amd64_pte_index(gva, level), entries::index(gva, level as u8));
+    let set = |kind, a| (library::set_entry(old, kind, a), entries::set_entry(old, kind, a));
+    let addr = |a| (library::set_addr(old, a), entries::set_addr(old, a));
+    let at = |gva, level| (library::get_amd64_pte_index(gva, level), entries::index(gva, level as u8));
     // A shift by 66.
     let far = if THIS == "checks" { None } else { Some(1) };
     let list = [
@@ -83,8 +84,8 @@ fn entry_operations() -> u32 {
         ("E5", addr(1 << 52) == (kept, None)),
         ("E6", at(1 << 57, 5) == (none, Some(1))),
         ("E7", at(1 << 2, 6) == (none, far)),
-        ("E8", exports::mapping_size(4) == (0, 1 << 48) && exports::mapping_size(5) == none),
-        ("E9", exports::set_entry(old, 4, 0) == kept),
+        ("E8", library::mapping_size(4) == (0, 1 << 48) && library::mapping_size(5) == none),
+        ("E9", unknown_kind(old) == kept),
         ("E10", contains()),
     ];
     let bad: Vec<_> = list.iter().filter(|l| !l.1).collect();
@@ -92,10 +93,21 @@ fn entry_operations() -> u32 {
     bad.len() as u32
 }
 
+extern "C" {
+    fn archwend_set_entry(entry: *mut u64, kind: u64, addr: u64) -> u64;
+}
+
+/// A kind that C can name, and the crate's enum can't.
+fn unknown_kind(mut entry: u64) -> (u64, u64) {
+    // Safety: the pointer is that of a local, and the proved code requires nothing of the numbers.
+    let number = unsafe { archwend_set_entry(&mut entry, 4, 0) };
+    (number, entry)
+}
+
 /// The last page below 2^64.
 fn contains() -> bool {
     let base = 0u64.wrapping_sub(4096);
-    let ours = exports::calculate_page_table_index((base, 4096, 0), base);
+    let ours = library::calculate_page_table_index(Region { gpa: base, size: 4096, used: 0 }, base);
     let b = PageTableRelocationBuilder::new(base, 4096, 0, 0, Vtl::Vtl0);
     let theirs = catch_unwind(AssertUnwindSafe(|| b.contains(base))).ok();
     ours == (1, 0) && theirs == if THIS == "checks" { None } else { Some(false) }

@@ -175,9 +175,7 @@ impl Tally {
                 self.moved += r.moved;
                 self.merged += r.merged;
             }
-            // The others have no place.
-            Err(e) if e.number == 12 || e.number == 19 => (five.place)(&mut e.place),
-            Err(_) => {}
+            Err(e) => e.place.iter_mut().for_each(|p| (five.place)(p)),
         }
         *self.builds.entry(got.number()).or_default() += 1;
         let what = difference(&got, &five.due).or(got.wrong.map(str::to_string));
