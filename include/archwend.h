@@ -10,8 +10,9 @@
  *
  * For firmware and kernels, as tests/interface.sh measures it: besides memset nothing is undefined in the archive. A call takes
  * less than 8 KiB of stack; a walk down five levels takes 4.5. The code uses SSE2 registers: they have to be switched on, and saved
- * where a call interrupts their user. archwend_mapping_size and archwend_extract_individual_masks use the red zone, the 128 bytes
- * below the stack pointer: while they run no interrupt may be taken on their stack. All others leave it alone. Relocations are
+ * where a call interrupts their user. archwend_mapping_size, archwend_set_leaf_addr, archwend_leaf_gpa and
+ * archwend_extract_individual_masks use the red zone, the 128 bytes below the stack pointer: while they run no interrupt may be
+ * taken on their stack. All others leave it alone. Relocations are
  * relative to the code (R_X86_64_PC32, R_X86_64_PLT32), so it runs at any address. No data is written but what is lent: any number
  * of threads may call at once, each with memory of its own. */
 #ifndef ARCHWEND_H
@@ -30,16 +31,16 @@ extern "C" {
 
 /* The version of this interface: it goes up with every change that a caller can see. The archive has it in a function's name, which
  * is asked for here, so that what was compiled with another version does not link. */
-#define ARCHWEND_VERSION 1
+#define ARCHWEND_VERSION 2
 
 /* Returns ARCHWEND_VERSION. */
-uint64_t archwend_interface_1(void);
+uint64_t archwend_interface_2(void);
 
 #ifdef __GNUC__
 #if __has_attribute(retain) /* kept also where the linker drops what nothing uses */
-static uint64_t (*const archwend_interface)(void) __attribute__((used, retain)) = archwend_interface_1;
+static uint64_t (*const archwend_interface)(void) __attribute__((used, retain)) = archwend_interface_2;
 #else
-static uint64_t (*const archwend_interface)(void) __attribute__((used)) = archwend_interface_1;
+static uint64_t (*const archwend_interface)(void) __attribute__((used)) = archwend_interface_2;
 #endif
 #endif
 
@@ -67,8 +68,8 @@ enum archwend_number {
     ARCHWEND_WAY_OUTSIDE = 17,      /* the way to a moved leaf leaves the moved region */
     ARCHWEND_OCCUPIED = 18,         /* a different entry stands where a moved leaf goes */
     ARCHWEND_NO_FREE_TABLE = 19,    /* the region has no free table left */
-    ARCHWEND_ENTRY = 20,            /* the address has a bit that the entry can't hold, the level is above 4, or the kind
-                                       of entry is unknown */
+    ARCHWEND_ENTRY = 20,            /* the address has a bit that the entry can't hold, the level is above 4, or above 2
+                                       for a leaf, or the kind of entry is unknown */
     ARCHWEND_NOT_COMPARABLE = 34    /* two images differ in length, are not whole pages, or are longer than 2097152 bytes */
 };
 
@@ -154,16 +155,33 @@ uint64_t archwend_set_entry(
     uint64_t addr  /* a multiple of the size mapped, 4096 for a table, and below 2^52 */
 );
 
-/* Sets the entry's address, bits 51 to 12. Returns ARCHWEND_OK, or ARCHWEND_ENTRY and the entry stays as it came. */
+/* Sets a table entry's address, bits 51 to 12. Returns ARCHWEND_OK, or ARCHWEND_ENTRY and the entry stays as it came. */
 uint64_t archwend_set_addr(
     uint64_t *entry,
     uint64_t addr /* no bit outside 51 to 12 */
 );
 
-/* Reads a present entry's address. Returns 1, or 0 where the entry is absent. */
+/* Reads a present table entry's address. Returns 1, or 0 where the entry is absent. */
 uint64_t archwend_gpa(
     uint64_t entry,
     uint64_t *gpa /* the address, or 0 */
+);
+
+/* A leaf's address is bits 51 to 12 at level 0, 51 to 21 at level 1, 51 to 30 at level 2; the bits below, among them bit 12 of a
+ * large leaf, which is of the memory type (PAT), are no part of it. */
+
+/* Sets a leaf's address. Returns ARCHWEND_OK, or ARCHWEND_ENTRY and the entry stays as it came. */
+uint64_t archwend_set_leaf_addr(
+    uint64_t *entry,
+    uint64_t level, /* 0 to 2 */
+    uint64_t addr   /* a multiple of the size mapped, below 2^52 */
+);
+
+/* Reads a present leaf's address. Returns 1, or 0 where the entry is absent, or ARCHWEND_ENTRY for a level above 2. */
+uint64_t archwend_leaf_gpa(
+    uint64_t entry,
+    uint64_t level, /* 0 to 2 */
+    uint64_t *gpa   /* the address, or 0 */
 );
 
 /* Whether the entry is present (bit 0): 1 or 0. */

@@ -184,9 +184,9 @@ ARCHWEND_LIB_DIR=$room/lib try cargo_in user run --offline $X86
 verdict "a user" [ "$(cat out)" = "Ok(2097152)" ]
 mkdir other-interface
 objcopy=$(command -v x86_64-linux-gnu-objcopy || command -v objcopy)
-"$objcopy" --redefine-sym archwend_interface_1=archwend_interface_2 "$archive" other-interface/libarchwend.a
+"$objcopy" --redefine-sym archwend_interface_2=archwend_interface_3 "$archive" other-interface/libarchwend.a
 ARCHWEND_LIB_DIR=$room/other-interface try cargo_in user build --offline $X86
-verdict "an archive of another interface" failed_saying archwend_interface_1
+verdict "an archive of another interface" failed_saying archwend_interface_2
 
 # Nothing is run again where nothing changed, and rt where a crate did.
 build() { PATH=$room/kit:$PATH try cargo_in repository/loader build --offline $X86; }

@@ -53,16 +53,43 @@ impl PageTableEntry {
         Error::unless_ok(unsafe { ffi::archwend_set_entry(&mut self.entry, kind, address) })
     }
 
-    /// Sets the address, bits 51 to 12. One with any other bit is refused with 20.
+    /// Sets a table entry's address, bits 51 to 12. One with any other bit is refused with 20. A leaf's is set by
+    /// [`PageTableEntry::set_leaf_addr`].
     pub fn set_addr(&mut self, addr: u64) -> Result<(), Error> {
         Error::unless_ok(unsafe { ffi::archwend_set_addr(&mut self.entry, addr) })
     }
 
-    /// The address of a present entry.
+    /// The address of a present table entry, bits 51 to 12. A leaf's is read by [`PageTableEntry::leaf_gpa`].
     pub fn gpa(&self) -> Option<u64> {
         let mut gpa = 0;
         let present = unsafe { ffi::archwend_gpa(self.entry, &mut gpa) };
         (present != 0).then_some(gpa)
+    }
+
+    /// Sets the address of a leaf of a level: bits 51 to 12, to 21 or to 30, at level 0, 1 or 2. The bits below stay, among them
+    /// bit 12 of a large leaf, which is of the memory type (PAT). A level above 2, or an address with any other bit, is refused
+    /// with 20.
+    ///
+    /// ```
+    /// use archwend::PageTableEntry;
+    ///
+    /// let mut leaf = PageTableEntry::from(0x2010e3);
+    /// leaf.set_leaf_addr(1, 0x400000)?;
+    /// assert_eq!((leaf, leaf.leaf_gpa(1)?), (PageTableEntry::from(0x4010e3), Some(0x400000)));
+    /// # Ok::<(), archwend::Error>(())
+    /// ```
+    pub fn set_leaf_addr(&mut self, level: u64, addr: u64) -> Result<(), Error> {
+        Error::unless_ok(unsafe { ffi::archwend_set_leaf_addr(&mut self.entry, level, addr) })
+    }
+
+    /// The address of a present leaf of a level. A level above 2 is refused with 20, also where the entry is absent.
+    pub fn leaf_gpa(&self, level: u64) -> Result<Option<u64>, Error> {
+        let mut gpa = 0;
+        match unsafe { ffi::archwend_leaf_gpa(self.entry, level, &mut gpa) } {
+            0 => Ok(None),
+            1 => Ok(Some(gpa)),
+            number => Error::unless_ok(number).map(|()| None),
+        }
     }
 
     /// Whether bit 0 is set.

@@ -6,7 +6,7 @@ macro_rules! exports {
         mod linked {
             extern "C" {
                 // The number is `INTERFACE`.
-                #[link_name = "archwend_interface_1"]
+                #[link_name = "archwend_interface_2"]
                 pub fn interface() -> u64;
                 $(pub fn $name($($argument: $type),*) $(-> $answer)?;)*
             }
@@ -64,6 +64,8 @@ exports! {
     archwend_set_entry(entry: *mut u64, kind: u64, addr: u64) -> u64;
     archwend_set_addr(entry: *mut u64, addr: u64) -> u64;
     archwend_gpa(entry: u64, gpa: *mut u64) -> u64;
+    archwend_set_leaf_addr(entry: *mut u64, level: u64, addr: u64) -> u64;
+    archwend_leaf_gpa(entry: u64, level: u64, gpa: *mut u64) -> u64;
     archwend_is_present(entry: u64) -> u64;
     archwend_is_large_page(entry: u64) -> u64;
     archwend_clear(entry: *mut u64);

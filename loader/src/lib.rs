@@ -73,7 +73,7 @@ pub use refusals::{Error, Place};
 pub use rules::Rule;
 
 /// The version of the library's interface that this crate is for. An archive of another does not link with it.
-pub const INTERFACE: u64 = 1;
+pub const INTERFACE: u64 = 2;
 
 /// Number of bytes in a page.
 pub const X64_PAGE_SIZE: u64 = 4096;

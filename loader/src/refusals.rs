@@ -96,7 +96,7 @@ refusals! {
     WAY_OUTSIDE = 17, "the way to a moved leaf leaves the moved region";
     OCCUPIED = 18, "a different entry stands where a moved leaf goes";
     NO_FREE_TABLE = 19, "the region has no free table left";
-    ENTRY = 20, "the address has a bit that the entry can't hold, the level is above 4, or the kind of entry is unknown";
+    ENTRY = 20, "the address has a bit that the entry can't hold, the level is above 4, or above 2 for a leaf, or the kind of entry is unknown";
     NOT_COMPARABLE = 34, "two images differ in length, are not whole pages, or are longer than 2097152 bytes";
 }
 

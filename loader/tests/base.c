@@ -1,5 +1,5 @@
 /* Over include/archwend.h: builds the specification's base example, where the 2 MiB page at 0x200000 moves up by 2 MiB; with five
- * levels it moves up by 2^48. Then what the build changed, the bounds of a region, entries alone, and levels. */
+ * levels it moves up by 2^48. Then what the build changed, the bounds of a region, entries alone, leaves, and levels. */
 #include "archwend.h"
 #include <stdio.h>
 #include <string.h>
@@ -161,6 +161,26 @@ static int entries(void) {
     return archwend_extract_individual_masks(0x11000, masks) == 2 && masks[0] == 0x1000 && masks[1] == 0x10000 && masks[2] == 0;
 }
 
+/* What stands below a large leaf's address stays; no leaf has a level above 2. */
+static int leaves(void) {
+    uint64_t leaf = 0x3010e3, address = 1;
+
+    if (archwend_set_leaf_addr(&leaf, 1, 0x400000) != ARCHWEND_OK || leaf != 0x5010e3)
+        return 0;
+    if (archwend_leaf_gpa(leaf, 1, &address) != 1 || address != 0x400000)
+        return 0;
+    if (archwend_leaf_gpa(0xa00000e3, 2, &address) != 1 || address != 0x80000000)
+        return 0;
+    if (archwend_set_leaf_addr(&leaf, 1, 0x401000) != ARCHWEND_ENTRY || leaf != 0x5010e3)
+        return 0;
+    if (archwend_set_leaf_addr(&leaf, 3, 0x8000000000) != ARCHWEND_ENTRY || leaf != 0x5010e3)
+        return 0;
+    if (archwend_leaf_gpa(0, 2, &address) != 0 || address != 0)
+        return 0;
+    address = 1;
+    return archwend_leaf_gpa(0, 3, &address) == ARCHWEND_ENTRY && address == 0;
+}
+
 /* An entry of level 4 maps 2^48, and bits 48 to 56 are its index; there is no level above. */
 static int levels(void) {
     uint64_t bytes, index;
@@ -175,12 +195,12 @@ static int levels(void) {
 }
 
 int main(void) {
-    int (*const parts[])(void) = {four_levels, five_levels, comparison, bounds, entries, levels};
+    int (*const parts[])(void) = {four_levels, five_levels, comparison, bounds, entries, leaves, levels};
 
-    for (int i = 0; i < 6; i++) {
+    for (int i = 0; i < 7; i++) {
         if (!parts[i]())
             return i + 1;
     }
-    puts("four levels, five levels, comparison, bounds, entries, levels: as expected");
+    puts("four levels, five levels, comparison, bounds, entries, leaves, levels: as expected");
     return 0;
 }

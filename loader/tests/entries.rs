@@ -60,6 +60,37 @@ fn bits_and_addresses() {
     assert_eq!(std::mem::size_of::<PageTableEntry>(), 8);
 }
 
+/// The field of a leaf's address, by its level.
+const LEAF_FIELDS: [u64; 3] = [FIELD, 0x000f_ffff_ffe0_0000, 0x000f_ffff_c000_0000];
+
+#[test]
+fn leaves() {
+    for word in words() {
+        for level in 0..3 {
+            let field = LEAF_FIELDS[level as usize];
+            let entry = PageTableEntry::from(word);
+            assert_eq!(entry.leaf_gpa(level), Ok(if word & 1 != 0 { Some(word & field) } else { None }));
+            for a in words() {
+                let mut set = entry;
+                let answer = set.set_leaf_addr(level, a).map_err(|e| (e.number, e.place, e.rule));
+                if a & !field == 0 {
+                    assert_eq!((answer, u64::from(set)), (Ok(()), (word & !field) | a));
+                } else {
+                    assert_eq!((answer, set), (Err((20, None, None)), entry));
+                }
+            }
+        }
+    }
+    // No leaf has a level above 2, be it present or not.
+    for level in [3, 4, 5, 1 << 32, u64::MAX] {
+        for word in [0, 0x2010e3] {
+            let mut entry = PageTableEntry::from(word);
+            assert_eq!(entry.set_leaf_addr(level, 0).unwrap_err().number, Error::ENTRY);
+            assert_eq!((entry.leaf_gpa(level).unwrap_err().number, entry), (Error::ENTRY, word.into()));
+        }
+    }
+}
+
 #[test]
 fn tables() {
     let mut table = PageTable::default();

@@ -7,7 +7,7 @@
 use mathlib.Core.Path.{_≡_, refl, sym, ap, _∙_}
 use mathlib.Core.List.{List, List·Memᴰ}
 use mathlib.Core.Logic.{_⊎_, ⊎-elim, _↔_}
-use Prim.Native.Nat.{ℕ, suc, _+_, _-_, _*_, _%_, _^_, _≤_, _<_}
+use Prim.Native.Nat.{ℕ, suc, _+_, _-_, _*_, _/_, _%_, _^_, _≤_, _<_}
 use native.Mathlib.Omega.{arith}
 use lib.ListN.{length, getD, replicate, length-replicate}
 use Rattle.definitions.specs.Words.{slot, wordsOf, bytesOf}
@@ -28,9 +28,11 @@ use Rattle.definitions.specs.declared.Place.{Place}
 use Rattle.definitions.specs.declared.Region.{Region}
 use Rattle.definitions.specs.declared.Report.{Report}
 use Rattle.definitions.proofs.Words.{Bytes}
+use Rattle.definitions.proofs.Entry.{leaf-flags-bits}
 use Rattle.definitions.proofs.Cr4.{withCr4, five-walked, four-walked, by-geometry, one-bit}
 use Rattle.definitions.proofs.Build.{job-proper, output-refused}
 use Rattle.definitions.proofs.LoadEnds.{PutIn, LoadEnds, load-ends, put-length, put-inside, put-elsewhere}
+use Rattle.demands.proofs.Both.Bridge.{old}
 use Rattle.demands.proofs.Exact.{exact, accepted-iff}
 use Rattle.demands.proofs.First.{in-order}
 use Rattle.demands.proofs.Main.{rebuilt}
@@ -337,6 +339,17 @@ module _
         → Moves (asked c) b x
         → (e : ℕ) × (walkBefore c b ≡ inLeaf (x .level) e) × (leafFlags (x .level) (x .entry) ≡ leafFlags (x .level) e)
     same-leaf ok b x m = (entryBefore (asked c) b, sym (before-is c b) ∙ demand-three ok .level b x m, demand-three ok .flags b x m)
+
+    -- so every bit outside its level's field is as it was: those from 52 up, and those below the field
+    pub same-bits :
+        numberRead report ≡ 0
+        → (b : ℕ) (x : Moved)
+        → Moves (asked c) b x
+        → (e : ℕ) × (walkBefore c b ≡ inLeaf (x .level) e) × (x .entry / 2 ^ 52 ≡ e / 2 ^ 52) × (x .entry % span (x .level) ≡ e % span (x .level))
+    same-bits ok b x m =
+        let s = same-leaf ok b x m in
+        let bits = leaf-flags-bits (x .level) (x .entry) (s .0) (old (asked c) b x m .low) (s .2) in
+        (s .0, s .1, bits .0, bits .1)
 
     -- and its new span is the old one moved by the signed offset
     pub new-place :

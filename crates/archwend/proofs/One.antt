@@ -6,10 +6,10 @@ use mathlib.Core.Option.{Option}
 use Prim.Native.Nat.{ℕ}
 use Rattle.definitions.specs.Inputs.{Job}
 use Rattle.definitions.specs.declared.Region.{Region}
-use Rattle.definitions.specs.Entry.{Answer, setAddress, readAddress, mappedSize, levelIndex}
+use Rattle.definitions.specs.Entry.{Answer, setAddress, readAddress, setLeafAddress, mappedSize, levelIndex}
 use Rattle.definitions.specs.Ranges.{tableIn}
 use Rattle.archwend.specs.Exports.{Answers, LoadsPage, ComparesImages, NamesInterface}
-use Rattle.archwend.specs.Entries.{Leaves, Finds, freshOf, SetsFresh, SetsAddr, ReadsAddr, FlagsPresent, FlagsLarge, ClearsWord}
+use Rattle.archwend.specs.Entries.{Leaves, Finds, freshOf, SetsFresh, SetsAddr, ReadsAddr, SetsLeafAddr, ReadsLeafAddr, FlagsPresent, FlagsLarge, ClearsWord}
 use Rattle.archwend.specs.Entries.{SizesLevel, IndexesLevel, FindsTable, SplitsInto}
 
 -- the report, the output and the scratch
@@ -43,6 +43,12 @@ module _ {n n′ w w′ : ℕ} where
 
   pub one-read : (e : ℕ) → ReadsAddr e n w → ReadsAddr e n′ w′ → (n ≡ n′) × (w ≡ w′)
   one-read e = one-found (readAddress e)
+
+  pub one-leaf-addr : (e level a : ℕ) → SetsLeafAddr e level a n w → SetsLeafAddr e level a n′ w′ → (n ≡ n′) × (w ≡ w′)
+  one-leaf-addr e level a = one-left (setLeafAddress level e a)
+
+  pub one-leaf-read : (e level : ℕ) → ReadsLeafAddr e level n w → ReadsLeafAddr e level n′ w′ → (n ≡ n′) × (w ≡ w′)
+  one-leaf-read e level p q = (p .told ∙ sym (q .told), p .value ∙ sym (q .value))
 
   pub one-size : (level : ℕ) → SizesLevel level n w → SizesLevel level n′ w′ → (n ≡ n′) × (w ≡ w′)
   one-size level = one-left (mappedSize level)

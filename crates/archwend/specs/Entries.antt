@@ -6,7 +6,7 @@ use mathlib.Core.List.{List}
 use mathlib.Core.Option.{Option, none, some}
 use Prim.Native.Nat.{ℕ}
 use lib.Dec.{eqb}
-use Rattle.definitions.specs.Entry.{Answer, present, large, setTable, setLeaf, setAddress, readAddress, mappedSize, levelIndex}
+use Rattle.definitions.specs.Entry.{Answer, present, large, setTable, setLeaf, setAddress, readAddress, setLeafAddress, Reading, readLeafAddress, mappedSize, levelIndex}
 use Rattle.definitions.specs.Ranges.{tableIn}
 use Rattle.definitions.specs.declared.Region.{Region}
 use Rattle.masks.specs.Promises.{Splits}
@@ -37,6 +37,15 @@ pub record Finds (o : Option ℕ) (n word : ℕ) : Type 0 where
   pub found : n ≡ counted o
   pub value : word ≡ orZero o
 
+-- the refusal's number, or how many values there are
+abbrev pub toldBy : Reading → ℕ
+toldBy r = cond (eqb (r .number) 0) (counted (r .found)) (r .number)
+
+-- 1 is returned and the value left, or 0 and 0, or 20 and 0
+pub record FindsIn (r : Reading) (n word : ℕ) : Type 0 where
+  pub told : n ≡ toldBy r
+  pub value : word ≡ orZero (r .found)
+
 -- entry e becomes a fresh one of a kind (§3.12): 3 is a table entry, any other a leaf of that level, which `setLeaf` refuses
 -- above 2
 unfoldable pub freshOf : ℕ → ℕ → ℕ → Answer
@@ -52,6 +61,12 @@ SetsAddr e a n word = Leaves (setAddress e a) n word
 
 abbrev pub ReadsAddr : ℕ → ℕ → ℕ → Type 0
 ReadsAddr e n word = Finds (readAddress e) n word
+
+abbrev pub SetsLeafAddr : ℕ → ℕ → ℕ → ℕ → ℕ → Type 0
+SetsLeafAddr e level a n word = Leaves (setLeafAddress level e a) n word
+
+abbrev pub ReadsLeafAddr : ℕ → ℕ → ℕ → ℕ → Type 0
+ReadsLeafAddr e level n word = FindsIn (readLeafAddress level e) n word
 
 abbrev pub FlagsPresent : ℕ → ℕ → Type 0
 FlagsPresent e n = n ≡ flag (present e)

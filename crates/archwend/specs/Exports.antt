@@ -36,10 +36,10 @@ pub record ComparesImages (older newer : List ℕ) (room : ℕ) (answer list : L
   pub answered : answer ≡ answerWords (compared older newer room)
   pub listed : list ≡ compared older newer room .list
 
--- §2.13: "it is 1"
+-- §2.13: "it is 2"
 abbrev pub interface : ℕ
-interface = 1
+interface = 2
 
--- `archwend_interface_1`
+-- `archwend_interface_2`
 abbrev pub NamesInterface : ℕ → Type 0
 NamesInterface n = n ≡ interface

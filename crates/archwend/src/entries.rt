@@ -3,6 +3,7 @@
 use definitions::Region;
 use definitions::refusals;
 use entry::Gpa;
+use entry::LeafGpa;
 use entry::PageTableEntry;
 use entry::PageTableEntryType;
 use levels::Answer;
@@ -10,8 +11,11 @@ use region::TableIndex;
 ghost use mathlib.Core.Path.{_≡_};
 ghost use Rattle.levels.specs.Answers.{answerOf};
 ghost use Rattle.archwend.specs.Exports.{regionAt};
-ghost use Rattle.archwend.specs.Entries.{freshOf, flag, Leaves, SetsFresh, SetsAddr, ReadsAddr, FlagsPresent, FlagsLarge};
+ghost use Rattle.archwend.specs.Entries.{freshOf, flag, Leaves, SetsFresh, SetsAddr, ReadsAddr, SetsLeafAddr, ReadsLeafAddr, FlagsPresent, FlagsLarge};
 ghost use Rattle.archwend.specs.Entries.{ClearsWord, SizesLevel, IndexesLevel, FindsTable, SplitsInto};
+
+// The number of whatever is refused here.
+const REFUSED: u64 = refusals::ENTRY;
 
 // The kinds of a fresh entry; a leaf's is its level.
 const LEAF_4K: u64 = 0;
@@ -33,7 +37,7 @@ fn leave(answer: Answer, out: &mut u64) -> u64
         }
         Answer::Refused(w) => {
             *out = w;
-            refusals::ENTRY
+            REFUSED
         }
     }
 }
@@ -67,7 +71,7 @@ pub extern "C" fn archwend_set_entry(word: &mut u64, kind: u64, addr: u64) -> u6
     leave(made, word)
 }
 
-// The entry gets another address: 0, or 20 and it stays.
+// A table entry gets another address: 0, or 20 and it stays.
 #[no_mangle]
 pub extern "C" fn archwend_set_addr(word: &mut u64, addr: u64) -> u64
     ensures { λ n. ⌜ SetsAddr (now (word .entry)) addr n (now (word .exit)) ⌝ }
@@ -77,7 +81,7 @@ pub extern "C" fn archwend_set_addr(word: &mut u64, addr: u64) -> u64
     leave(changed, word)
 }
 
-// 1 and a present entry's address, or 0 and 0.
+// 1 and a present table entry's address, or 0 and 0.
 #[no_mangle]
 pub extern "C" fn archwend_gpa(word: u64, gpa: &mut u64) -> u64
     ensures { λ n. ⌜ ReadsAddr word n (now (gpa .exit)) ⌝ }
@@ -92,6 +96,39 @@ pub extern "C" fn archwend_gpa(word: u64, gpa: &mut u64) -> u64
         Gpa::Absent => {
             *gpa = 0;
             0
+        }
+    }
+}
+
+// A leaf of a level gets another address: 0, or 20 and it stays.
+#[no_mangle]
+pub extern "C" fn archwend_set_leaf_addr(word: &mut u64, level: u64, addr: u64) -> u64
+    ensures { λ n. ⌜ SetsLeafAddr (now (word .entry)) level addr n (now (word .exit)) ⌝ }
+{
+    let old = PageTableEntry { entry: *word };
+    let changed = old.set_leaf_addr(level, addr);
+    leave(changed, word)
+}
+
+// 1 and the address of a present leaf of a level, or 0 and 0, or 20 and 0.
+#[no_mangle]
+pub extern "C" fn archwend_leaf_gpa(word: u64, level: u64, found: &mut u64) -> u64
+    ensures { λ n. ⌜ ReadsLeafAddr word level n (now (found .exit)) ⌝ }
+{
+    let e = PageTableEntry { entry: word };
+    let answer = e.leaf_gpa(level);
+    match answer {
+        LeafGpa::Read(gpa) => {
+            *found = gpa;
+            1
+        }
+        LeafGpa::Nothing => {
+            *found = 0;
+            0
+        }
+        LeafGpa::NoLeaf => {
+            *found = 0;
+            REFUSED
         }
     }
 }

@@ -7,8 +7,8 @@ ghost use Rattle.archwend.specs.Exports.{regionAt, Answers, LoadsPage, C
 
 pub mod entries;
 
-// The version of what is exported; the name of `archwend_interface_1` carries it.
-const INTERFACE: u64 = 1;
+// The version of what is exported; the name of `archwend_interface_2` carries it.
+const INTERFACE: u64 = 2;
 
 // Builds the relocated tables of the image into the output; report: number, used, moved, merged, reached, and the place's
 // address, level and offset.
@@ -89,7 +89,7 @@ pub extern "C" fn archwend_compare(
 
 // What was built for another version asks for another name, and so does not link.
 #[no_mangle]
-pub extern "C" fn archwend_interface_1() -> u64
+pub extern "C" fn archwend_interface_2() -> u64
     ensures { λ n. ⌜ NamesInterface n ⌝ }
 {
     INTERFACE

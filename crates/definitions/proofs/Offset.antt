@@ -1,19 +1,23 @@
 -- Adding an offset word modulo 2^64 moves by the signed number that it means, up and down, below any bound up to 2^63.
 -- The offsets that the ranges give are words. Assumes nothing.
-use mathlib.Core.Path.{_≡_, refl}
+use mathlib.Core.Path.{_≡_, refl, sym, ap, ap₂, _∙_}
 use mathlib.Core.Bool.{Bool, true, false, cond}
 use mathlib.Core.Logic.{_↔_}
 use mathlib.Core.List.{List, [], _∷_}
-use Prim.Native.Nat.{ℕ, suc, _+_, _-_, _%_, _^_, _≤_, _<_}
+use Prim.Native.Nat.{ℕ, suc, _+_, _-_, _*_, _/_, _%_, _^_, _≤_, _<_}
 use native.Mathlib.Decide.{decLe}
 use native.Mathlib.Omega.{arith}
+use lib.Arith.{digits-mod}
 use lib.Dec.{ltb, eqb}
 use lib.ListN.{getD}
+use lib.Pow.{mod-mod-pow}
 use borrow.Author.Tests.{ltb-true, ltb-false, eq-eqb, le-leb}
 use Rattle.definitions.specs.Geometry.{span}
 use Rattle.definitions.specs.Inputs.{Region, Range}
 use Rattle.definitions.specs.Ranges.{shifted, magnitude, offsetOk, rangesOf, joined, deciding, touches, touching, stay, shift, byOffset, verdict, decide}
 use Rattle.definitions.specs.Offset.{upBy, downBy, signed, absolute, Target, Fits}
+use Rattle.definitions.proofs.Numbers.{multiple}
+use Rattle.definitions.proofs.Geometry.{span-pos, span-pow}
 use Rattle.definitions.proofs.Splits.{onBool, impossible}
 use Rattle.definitions.proofs.Ranges.{offset-sound}
 
@@ -25,6 +29,18 @@ magnitude-absolute o = turn (ltb o (2 ^ 63))
     turn : (b : Bool) → cond b o (2 ^ 64 - o) ≡ absolute (cond b (upBy o) (downBy (2 ^ 64 - o)))
     turn true = refl
     turn false = refl
+
+-- an address and an offset of whole spans give one of whole spans, at every level that leaves have
+pub shifted-whole : (l a o : ℕ) → l < 3 → a % span l ≡ 0 → o % span l ≡ 0 → shifted a o % span l ≡ 0
+unfolding shifted
+shifted-whole l a o h p q =
+    let u : span l ≡ 2 ^ (12 + 9 * l) = span-pow l in
+    let bits : 52 - 9 * l + (12 + 9 * l) ≡ 64 = omega arith in
+    ap₂ (λ (n k : ℕ). (a + o) % 2 ^ n % k) (sym bits) u ∙ mod-mod-pow (a + o) (52 - 9 * l) (12 + 9 * l)
+    ∙ ap (λ (n : ℕ). (a + o) % n) (sym u) ∙ ap (λ (n : ℕ). n % span l) sum ∙ digits-mod (a / span l + o / span l) (span-pos l)
+  where
+    sum : a + o ≡ (a / span l + o / span l) * span l + 0
+    sum = ap₂ _+_ (multiple (span l) a p) (multiple (span l) o q) ∙ omega arith
 
 -- an address a and an offset word o
 module _ (a o : ℕ) (low : a < 2 ^ 63) (word : o < 2 ^ 64) where

@@ -2,10 +2,12 @@
 -- Assumes nothing.
 use mathlib.Core.Bool.{Bool, true, false, _&&_}
 use mathlib.Core.List.{List, [], _∷_}
+use mathlib.Core.Option.{Option, none, some}
 use Prim.Native.Nat.{ℕ, zero, suc, _+_, _-_, _*_, _/_, _^_}
 use lib.Dec.{eqb}
 use Rattle.definitions.specs.Words.{Mem, blank, put, slot}
 use Rattle.definitions.specs.Geometry.{indices}
+use Rattle.definitions.specs.Entry.{Answer, answerIf, translate, setLeafAddress, Reading, readLeafAddress}
 use Rattle.definitions.specs.Inputs.{Job, Place, nowhere, Report, Built}
 use Rattle.definitions.specs.Build.{refused, build}
 use Rattle.definitions.specs.Compare.{Compared, notCompared, compare}
@@ -42,19 +44,39 @@ sameCompared c d =
     eqb (c .number) (d .number) && eqb (c .count) (d .count) && sameList (c .list) (d .list)
     && eqb (c .start) (d .start) && eqb (c .size) (d .size)
 
+unfoldable pub sameAnswer : Answer → Answer → Bool
+sameAnswer a b = eqb (a .number) (b .number) && eqb (a .word) (b .word)
+
+unfoldable pub sameFound : Option ℕ → Option ℕ → Bool
+sameFound none none = true
+sameFound none (some y) = false
+sameFound (some x) none = false
+sameFound (some x) (some y) = eqb x y
+
+unfoldable pub sameReading : Reading → Reading → Bool
+unfolding sameFound
+sameReading r s = eqb (r .number) (s .number) && sameFound (r .found) (s .found)
+
 -- ---- the examples
 
 -- a job that is to give a report and an output, compared in every word of the region; an address that is to have
--- these indices, level 0 first; two images, by length and words, and a room that are to be compared so
+-- these indices, level 0 first; a leaf, by level and entry, whose address is set so, is read so, or that translates an address
+-- so; two images, by length and words, and a room that are to be compared so
 pub data Example : Type 0 where
   builds : Job → Built → Example
   hasIndices : ℕ → List ℕ → Example
+  setsLeaf : ℕ → ℕ → ℕ → Answer → Example
+  readsLeaf : ℕ → ℕ → Reading → Example
+  translates : ℕ → ℕ → ℕ → ℕ → Example
   compares : ℕ → Mem → ℕ → Mem → ℕ → Compared → Example
 
 unfoldable pub holds : Example → Bool
-unfolding sameBuilt sameList sameCompared
+unfolding sameBuilt sameList sameAnswer sameReading sameCompared
 holds (builds j c) = sameBuilt (j .region .size / 8) (build j) c
 holds (hasIndices a xs) = sameList (indices a) xs
+holds (setsLeaf l e a b) = sameAnswer (setLeafAddress l e a) b
+holds (readsLeaf l e r) = sameReading (readLeafAddress l e) r
+holds (translates l e a b) = eqb (translate l e a) b
 holds (compares a older b newer room c) = sameCompared (compare a older b newer room) c
 
 unfoldable pub allHold : List Example → Bool
@@ -136,6 +158,27 @@ unfoldable pub farLeaf : Mem
 unfolding base₅
 farLeaf = put (put (put base₅ (slot 3 16) 0x104023) (slot 4 0) 0x105023) (slot 5 0) 0xE3
 
+-- ---- bits below a leaf's field
+
+-- the base with another leaf at 0x200000, and the job that moves it up by 0x200000
+unfoldable pub baseOf : ℕ → Mem
+unfolding base
+baseOf e = put base (slot 2 1) e
+
+unfoldable pub raising : Mem → Job
+unfolding job
+raising m = job 0x8000 0x200000 m
+
+-- accepted, with this entry at the new place: merged
+unfoldable pub yieldsLeaf : ℕ → ℕ → Built
+unfolding yields baseOf
+yieldsLeaf merged e = yields 0x3000 1 merged (put (baseOf 0) (slot 2 2) e)
+
+-- §12.41: a 1 GiB leaf at 0x40000000, and the job that moves it up by as much
+unfoldable pub largest : Job
+unfolding jobWith base
+largest = jobWith (0x40000000 ∷ 0x7FFFFFFF ∷ 0x40000000 ∷ []) 0x8000 (put base (slot 1 1) 0x600000E3)
+
 -- ---- comparisons
 
 -- what becomes of the base in §12.2
@@ -151,9 +194,9 @@ unfoldable pub findsNone : List ℕ → Compared
 findsNone ws = record { number = 0; count = 0; list = ws; start = 0; size = 0 }
 
 -- §12.1 to §12.11 and §12.15; then the order of refusals, §12.16 to §12.19; §12.20, since nothing may be put in while pass 1
--- still runs (§13.2); five levels, §12.21 to §12.30; and comparisons, §12.31 to §12.39
+-- still runs (§13.2); five levels, §12.21 to §12.30; bits below a leaf's field, §12.40 to §12.50; and comparisons, §12.31 to §12.39
 unfoldable pub examples : List Example
-unfolding crossing farLeaf base₅ movedBase
+unfolding crossing farLeaf base₅ baseOf raising yieldsLeaf largest movedBase
 examples =
     builds (job 0x8000 0x1FF000 base) (yields 0x3000 0 0 base)
     ∷ builds (job 0x8000 0x200000 base) (yields 0x3000 1 0 movedBase)
@@ -188,6 +231,17 @@ examples =
     ∷ builds (job₅ 0x8000 (2 ^ 48) (put base₅ (slot 3 1) 0x200023)) (refuses 17 (2 ^ 48 + 0x200000) 4 0)
     ∷ builds (job₅ 0x8000 0x200000 (put base₅ (slot 3 511) 0x107023)) (refuses 9 (511 * 2 ^ 48) 4 0)
     ∷ builds (jobTo₅ 0x6000 0x103000 0x8000 0x200000 farLeaf) (yieldsOf 6 0x6000 1 0 (put (put farLeaf (slot 2 1) 0) (slot 2 2) 0x4000E3))
+    ∷ builds (raising (baseOf 0x3010E3)) (yieldsLeaf 0 0x5010E3)
+    ∷ builds largest (yields 0x3000 1 0 (put base (slot 1 2) 0xA00000E3))
+    ∷ builds (raising (put (baseOf 0x2010E3) (slot 2 2) 0x4000E3)) (refuses 18 0x400000 1 0)
+    ∷ builds (raising (put (baseOf 0x2010E3) (slot 2 2) 0x4010E3)) (yieldsLeaf 1 0x4010E3)
+    ∷ translates 1 0x3010E3 0x234567 0x234567
+    ∷ setsLeaf 1 0x3010E3 0x400000 (answerIf true 0x5010E3 0)
+    ∷ setsLeaf 0 0x3010E3 0x400000 (answerIf true 0x4000E3 0)
+    ∷ setsLeaf 1 0x3010E3 0x401000 (answerIf false 0 0x3010E3)
+    ∷ setsLeaf 3 0x3010E3 0x8000000000 (answerIf false 0 0x3010E3)
+    ∷ readsLeaf 1 0x3010E3 (record { number = 0; found = some 0x200000 })
+    ∷ readsLeaf 3 0 (record { number = 20; found = none })
     ∷ compares 0x3000 base 0x3000 movedBase 9 (finds 2 (2 ∷ 1 ∷ 0x2000E3 ∷ 0 ∷ 2 ∷ 2 ∷ 0 ∷ 0x4000E3 ∷ 0 ∷ []) 0x2000)
     ∷ compares 0x3000 base 0x3000 movedBase 7 (notCompared 15 7)
     ∷ compares 0x3000 base 0x4000 movedBase 7 (notCompared 34 7)

@@ -38,7 +38,7 @@ pub const OCCUPIED: u64 = 18;
 
 pub const NO_FREE_TABLE: u64 = 19;
 
-// Of the operations on entries and levels, whose answer is levels::Answer.
+// Of the operations on entries and levels.
 pub const ENTRY: u64 = 20;
 
 // Of a comparison.

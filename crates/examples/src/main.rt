@@ -1,5 +1,6 @@
 // The specification's examples through the build, on bytes. One line each: the offset of the one range, what differs from
-// the base, the report, and each entry of the output that differs from the image. After the indices the base under a level-4 root.
+// the base, the report, and each entry of the output that differs from the image. After the indices the base under a level-4 root,
+// and then leaves with bits below their field.
 use build::CpuPagingState;
 use definitions::Region;
 use definitions::Report;
@@ -106,19 +107,29 @@ fn put_base(image: &mut [u8]) {
     tables::put(image, MAPPED, 0x20_00e3);
 }
 
-// Builds with an offset of the one range. The buffers are lent full of other bytes.
-fn build(image: &[u8], offset: u64, size: u64, cpu: CpuPagingState) {
+// Builds with one range. The buffers are lent full of other bytes.
+fn build_by(ranges: &[u64], image: &[u8], size: u64, cpu: CpuPagingState) {
     let mut out = [0xa5u8; MOST];
     let mut scratch = [7u64; 4];
-    let ranges = [0x20_0000u64, 0x3f_ffff, offset];
     let r = Region {
         gpa: GPA,
         size: size,
         used: image.len() as u64,
     };
-    let report = build::build(image, &mut out, &mut scratch, &ranges, r, cpu, 0);
+    let report = build::build(image, &mut out, &mut scratch, ranges, r, cpu, 0);
     print(report);
     left(report.number, image, &out, &scratch);
+}
+
+// With an offset of the range over the base's leaf.
+fn build(image: &[u8], offset: u64, size: u64, cpu: CpuPagingState) {
+    let ranges = [0x20_0000u64, 0x3f_ffff, offset];
+    build_by(&ranges, image, size, cpu);
+}
+
+// The registers of the base.
+fn four() -> CpuPagingState {
+    CpuPagingState { cr3: GPA, cr4: 0 }
 }
 
 // Runs the base with an offset and a change.
@@ -126,7 +137,7 @@ fn run(offset: u64, c: Variant) {
     let mut image = [0u8; USED];
     put_base(&mut image);
     tables::put(&mut image, c.slot, c.word);
-    build(&image, offset, c.size, CpuPagingState { cr3: GPA, cr4: 0 });
+    build(&image, offset, c.size, four());
 }
 
 // The base as it is, with an offset.
@@ -279,6 +290,32 @@ fn five_levels() {
     far_leaf();
 }
 
+fn gigabyte() {
+    text(b"range 40000000 to 7fffffff, offset 40000000, 1.1 = 600000e3:");
+    let mut image = [0u8; USED];
+    put_base(&mut image);
+    tables::put(&mut image, TABLE_1 + 1, 0x6000_00e3);
+    let ranges = [0x4000_0000u64, 0x7fff_ffff, 0x4000_0000];
+    build_by(&ranges, &image, 0x8000, four());
+}
+
+// A leaf with bit 12 meets an entry.
+fn bit_twelve(label: &[u8], met: u64) {
+    text(label);
+    let mut image = [0u8; USED];
+    put_base(&mut image);
+    tables::put(&mut image, MAPPED, 0x20_10e3);
+    tables::put(&mut image, TABLE_2 + 2, met);
+    build(&image, 0x20_0000, 0x8000, four());
+}
+
+fn leaf_bits() {
+    with_entry(b"offset 200000, 2.1 = 3010e3:", MAPPED, 0x30_10e3);
+    gigabyte();
+    bit_twelve(b"offset 200000, 2.1 = 2010e3, 2.2 = 4000e3:", 0x40_00e3);
+    bit_twelve(b"offset 200000, 2.1 = 2010e3, 2.2 = 4010e3:", 0x40_10e3);
+}
+
 fn main() {
     plain(b"offset 1ff000:", 0x1f_f000);
     plain(b"offset 200000:", 0x20_0000);
@@ -304,4 +341,5 @@ fn main() {
     plain(b"offset ffffffe00000:", 0xffff_ffe0_0000);
     indices();
     five_levels();
+    leaf_bits();
 }

@@ -22,7 +22,7 @@ use Rattle.definitions.specs.declared.Refusal.{Refusal}
 use Rattle.definitions.specs.declared.paging.Geometry.{Geometry}
 use Rattle.definitions.proofs.Pass1.{act-absent, act-stay}
 use Rattle.definitions.proofs.Step.{unless-then}
-use Rattle.definitions.proofs.Geometry.{page-fits, span-pages}
+use Rattle.definitions.proofs.Kind.{leaf-low}
 use Rattle.moved.specs.View.{leaf, leavesOf, keptStep, KeptIn, Keeps, Held}
 use Rattle.moved.specs.declared.Store.{Store}
 use Rattle.moved.specs.declared.Kept.{Kept}
@@ -73,19 +73,11 @@ module _ (p : Plan) (ws : List ℕ) (x : Spot) where
 
     pub told-by : (o : ℕ) → s ≡ By o → Told ws p x (Leaf o)
     unfolding act kind kindOf kindAct leafAct
-    told-by o q n =
+    told-by o q =
         let d : decide (deciding (p .old) (p .offset) (rangesOf ws)) (x .level) (x .va) ≡ shift o = decided ∙ ap saysOf q in
-        rw (here, points, d)
+        (leaf-low (x .level) (x .entry) points, λ n. rw (here, points, d))
 
 -- ---- a leaf that moves by o
-
--- its new address is of whole pages
-pub new-pages : (l a o : ℕ) → a % span l ≡ 0 → o % span l ≡ 0 → shifted a o % 4096 ≡ 0
-unfolding shifted
-new-pages l a o h k =
-    let x : a % 4096 ≡ 0 = page-fits (span l) a h (span-pages l) in
-    let y : o % 4096 ≡ 0 = page-fits (span l) o k (span-pages l) in
-    omega arith
 
 -- 12 and 13 do not apply; b is the new address, and v the word with it
 pub record Away (g : Geometry) (x : Spot) (o b v : ℕ) : Type 0 where

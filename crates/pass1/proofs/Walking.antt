@@ -94,7 +94,7 @@ module _ (ws : List ℕ) (p : Plan) (x : Spot) (m : Mem) (xs : List ℕ) (w : Wa
     pub stored-visits : (t : Store) → Departs (p .geometry) x o m xs (w .store) m′ ys (Stored t) → Runs w → Visits ws p x m xs w m′ ys (storing w t)
     stored-visits t d runs = record {
       step = outcome-go m′ ys (storing w t) runs ∙ d .step (planOf p ws (length xs)) refl (setOf (w .reached)) downOf
-          ∙ sym (ap does (told (length xs)));
+          ∙ sym (ap does (told .1 (length xs)));
       held = d .held;
       long = d .long;
     }
@@ -104,7 +104,7 @@ module _ (ws : List ℕ) (p : Plan) (x : Spot) (m : Mem) (xs : List ℕ) (w : Wa
     refused-visits r d w′ e = rw e (
       record {
         step = outcome-stop m′ ys (refusing w r) (d .held .1)
-            ∙ d .step (planOf p ws (length xs)) refl (setOf (w .reached)) downOf ∙ sym (ap does (told (length xs)));
+            ∙ d .step (planOf p ws (length xs)) refl (setOf (w .reached)) downOf ∙ sym (ap does (told .1 (length xs)));
         held = d .held .0;
         long = d .long;
       },

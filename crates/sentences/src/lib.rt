@@ -68,7 +68,7 @@ pub fn write(fd: i32, number: u64) -> bool {
         refusals::NO_FREE_TABLE => io::write_all(fd, b"the region has no free table left"),
         refusals::ENTRY => io::write_all(
             fd,
-            b"the address has a bit that the entry can't hold, the level is above 4, or the kind of entry is unknown",
+            b"the address has a bit that the entry can't hold, the level is above 4, or above 2 for a leaf, or the kind of entry is unknown",
         ),
         refusals::NOT_COMPARABLE => io::write_all(
             fd,

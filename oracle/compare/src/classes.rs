@@ -64,7 +64,7 @@ fn site(message: &str) -> &str {
         ("VALID_BITS", "set_addr"),
         ("% X64_PAGE_SIZE", "set_entry"),
         ("entry_map.insert", "assert! on the insert"),
-        ("left: PageTableEntry", "assert_eq! on the entry"),
+        ("PageTableEntry {", "assert_eq! on the entry"),
         ("left == right", "assert_eq! on the length"),
         ("should be part", "expect, pass 2"),
         ("list of page tables", "expect, tables"),
@@ -124,7 +124,12 @@ fn rule(job: &Job, number: u64) -> &'static str {
 /// What else takes a job that was walked out of the shared domain.
 fn also(job: &Job, image: &[u8]) -> Vec<&'static str> {
     let downward = job.table_offset < 0 || job.ranges.iter().any(|r| r.2 < 0);
-    let reasons = [(downward, "downward"), (!document::touched_once(job, &jobs::words(image)), "two ranges")];
+    let image = jobs::words(image);
+    let reasons = [
+        (downward, "downward"),
+        (!document::touched_once(job, &image), "two ranges"),
+        (document::low_bits(job, &image), "bits below the address"),
+    ];
     reasons.iter().filter(|r| r.0).map(|r| r.1).collect()
 }
 

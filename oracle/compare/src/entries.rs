@@ -4,7 +4,7 @@
 //! its tables' numbers through the root that a build takes, and through `contains`.
 
 use archwend::Region;
-use jobs::document::{span, FIELD};
+use jobs::document::{leaf_field, span, FIELD};
 use jobs::random::Random;
 use jobs::{bytes, words, Built, Job, Load};
 use original::hv_defs::Vtl;
@@ -54,6 +54,14 @@ pub mod library {
 
     pub fn gpa(word: u64) -> (u64, u64) {
         found(PageTableEntry::from(word).gpa())
+    }
+
+    pub fn set_leaf_addr(word: u64, level: u64, addr: u64) -> (u64, u64) {
+        changed(word, |e| e.set_leaf_addr(level, addr))
+    }
+
+    pub fn leaf_gpa(word: u64, level: u64) -> (u64, u64) {
+        PageTableEntry::from(word).leaf_gpa(level).map_or_else(|e| (e.number, 0), found)
     }
 
     pub fn mapping_size(level: u64) -> (u64, u64) {
@@ -200,8 +208,10 @@ pub fn round(r: &mut Random, t: &mut Tally) {
     t.same("gpa", word, library::gpa(word), gpa(word));
     t.same("clear", word, Some(library::clear(word)), clear(word));
     set_one(r, t, word);
+    leaf_one(r, t);
     let (gva, level) = (r.word(), r.below(5));
-    t.same("get_amd64_pte_index", (gva, level), library::get_amd64_pte_index(gva, level), (0, index(gva, level as u8).expect("no panic")));
+    let theirs = (0, index(gva, level as u8).expect("no panic"));
+    t.same("get_amd64_pte_index", (gva, level), library::get_amd64_pte_index(gva, level), theirs);
     size_one(r, t);
     table_one(r, t);
     let mut mask = r.word() as u32;
@@ -229,6 +239,19 @@ fn set_one(r: &mut Random, t: &mut Tally, word: u64) {
         a |= 1 << r.of(&[0, 11, 52, 63]);
     }
     t.refusable("set_addr", (word, a, 0), library::set_addr(word, a), set_addr(word, a));
+}
+
+/// In the shared domain neither the entry nor the address has field bits below the level's field.
+fn leaf_one(r: &mut Random, t: &mut Tally) {
+    let level = r.below(3);
+    let field = leaf_field(level as usize);
+    let word = r.word() & (!FIELD | field);
+    t.same("leaf_gpa", (word, level), library::leaf_gpa(word, level), gpa(word));
+    let mut a = r.word() & field;
+    if r.percent(5) {
+        a |= 1 << r.of(&[0, 11, 52, 63]);
+    }
+    t.refusable("set_leaf_addr", (word, level, a), library::set_leaf_addr(word, level, a), set_addr(word, a));
 }
 
 /// A leaf's address is the sum of what its entries' levels map, each times the entry's place; so that level 3 shows too.

@@ -26,6 +26,11 @@ pub fn span(level: usize) -> u64 {
     0x1000 << (9 * level)
 }
 
+/// The address field of a leaf of the level: bits 51 down to 12, to 21 or to 30. A table entry's is the whole field.
+pub fn leaf_field(level: usize) -> u64 {
+    FIELD & !(span(level) - 1)
+}
+
 pub fn index(address: u64, level: usize) -> usize {
     (address >> (12 + 9 * level)) as usize & 511
 }
@@ -82,18 +87,42 @@ fn walk(job: &Job, words: &[u64], t: usize, level: usize, base: u64, reached: &m
     }
 }
 
-/// Whether each leaf is touched by at most one range, the region's own included where it joins.
-pub fn touched_once(job: &Job, words: &[u64]) -> bool {
-    let mut all: Vec<(u64, u64)> = job.ranges.iter().map(|r| (r.0, r.1)).collect();
+/// The ranges in ascending order, the region's own included where it joins.
+fn all_ranges(job: &Job) -> Vec<(u64, u64, i64)> {
+    let mut all = job.ranges.clone();
     if job.table_offset != 0 {
-        all.push((job.gpa, job.gpa + job.size - 1));
+        all.push((job.gpa, job.gpa + job.size - 1, job.table_offset));
     }
     all.sort();
-    leaves(job, words).iter().all(|&(a, level, _)| {
-        let end = a + (span(level) - 1);
-        let from = all.partition_point(|r| r.1 < a);
-        all[from..].iter().take_while(|r| r.0 <= end).count() <= 1
-    })
+    all
+}
+
+/// Those of them that touch a leaf.
+fn touching(all: &[(u64, u64, i64)], address: u64, level: usize) -> impl Iterator<Item = &(u64, u64, i64)> {
+    let end = address + (span(level) - 1);
+    let from = all.partition_point(|r| r.1 < address);
+    all[from..].iter().take_while(move |r| r.0 <= end)
+}
+
+/// Whether each leaf is touched by at most one range, the region's own included where it joins.
+pub fn touched_once(job: &Job, words: &[u64]) -> bool {
+    let all = all_ranges(job);
+    leaves(job, words).iter().all(|&(a, level, _)| touching(&all, a, level).count() <= 1)
+}
+
+/// The leaves that are to move: the magnitude of the offset of the lowest range that touches one is at least what it maps.
+pub fn to_move(job: &Job, words: &[u64]) -> Vec<(u64, usize, usize)> {
+    let all = all_ranges(job);
+    let mut found = leaves(job, words);
+    found.retain(|&(a, level, _)| touching(&all, a, level).next().map_or(false, |r| r.2.unsigned_abs() >= span(level)));
+    found
+}
+
+/// Whether a leaf that is to move has field bits below its level's field: they stay here, and the original clears them. In a
+/// refused job too. At 19 the answers can differ: a leaf that was merged before it here is a panic there. At 12 they can't, but
+/// one line for all needs no number. At 6 nothing is walked, so there are no leaves.
+pub fn low_bits(job: &Job, words: &[u64]) -> bool {
+    to_move(job, words).iter().any(|&(_, level, at)| words[at] & FIELD & !leaf_field(level) != 0)
 }
 
 /// Whether a load is in the shared domain, given its number. Whatever cr4 is: the original's loads have no bound, and where the
@@ -112,4 +141,5 @@ pub fn shared(job: &Job, loads: &[u64], built: u64, image: &[u64]) -> bool {
         && job.table_offset >= 0
         && job.ranges.iter().all(|r| r.2 >= 0)
         && touched_once(job, image)
+        && !low_bits(job, image)
 }

@@ -289,6 +289,14 @@ impl Draft<'_> {
         }
     }
 
+    /// Takes the bits below the address, which come now and then, from the leaves that are to move: with them a job is not in the
+    /// shared domain. Leaves that stay keep theirs.
+    fn clear_low_bits(&mut self) {
+        for (_, level, at) in to_move(&self.job, &self.image) {
+            self.image[at] &= !FIELD | leaf_field(level);
+        }
+    }
+
     /// Where the way to an address ends, at the level or above it: the place among the words, and its level.
     fn end_of_way(&self, to: u64, level: usize) -> (usize, usize) {
         let (mut table, mut l) = (self.nodes[0].table, top(&self.job));
@@ -319,7 +327,7 @@ impl Draft<'_> {
             let to = a + offset;
             let (slot, l) = self.end_of_way(to, level);
             if l == level && self.image[slot] & 1 == 0 {
-                self.image[slot] = (self.image[at] & !FIELD) | to;
+                self.image[slot] = (self.image[at] & !leaf_field(level)) | to;
                 if self.r.percent(3) {
                     self.image[slot] ^= 1 << self.r.of(&[1u64, 6, 8, 12, 30, 63]);
                 }
@@ -428,11 +436,13 @@ pub fn job(r: &mut Random, large: bool) -> Job {
     d.region(large);
     d.tree();
     d.ranges();
+    d.clear_low_bits();
     if d.r.percent(60) {
         d.plant();
     }
     if d.r.percent(15) {
         d.damage_image();
+        d.clear_low_bits();
     }
     if d.r.percent(30) {
         d.job.cr4 = d.r.word() & !LA57;

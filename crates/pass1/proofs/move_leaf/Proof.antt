@@ -1,11 +1,12 @@
 -- `pass1::move_leaf` meets its contract: two tests that refuse, and then what the store answers to the leaf with its new address. No loop.
 -- Past both tests `away` gathers what they and the calls gave; the laws of Moving turn it, with the store's answer, into the act.
 -- Assumes nothing.
-use Rattle.pass1.proofs.Moving.{Away, moves-odd, moves-past, moves-in, moves-clash, moves-full, new-pages}
+use Rattle.pass1.proofs.Moving.{Away, moves-odd, moves-past, moves-in, moves-clash, moves-full}
 use Rattle.definitions.specs.Ranges.{shifted}
 use Rattle.definitions.specs.Geometry.{span}
 use Rattle.definitions.proofs.Geometry.{span-pos, span-mono, span-mask}
-use Prim.Native.Nat.{ℕ, _+_, _-_, _%_, _≤_, _<_}
+use Rattle.definitions.proofs.Offset.{shifted-whole}
+use Prim.Native.Nat.{ℕ, _+_, _-_, _%_, _^_, _≤_, _<_}
 use native.Mathlib.Omega.{arith}
 use lib.Bits.{bitAnd}
 use mathlib.Core.Path.{_≡_, sym, ap, _∙_}
@@ -20,10 +21,10 @@ start c = c .before .before
 abbrev tested : tie.After-struct-known → tie.After-slice-known2
 tested c = c .before .before .before
 
-abbrev past₂ : tie.After-with-address → tie.After-struct-known
+abbrev past₂ : tie.After-with-field → tie.After-struct-known
 past₂ c = c .before .before
 
-abbrev set : tie.After-slice-known3 → tie.After-with-address
+abbrev set : tie.After-slice-known3 → tie.After-with-field
 set c = c .before .before .before .before
 
 -- the store's answer, and its arm that keeps the leaf
@@ -61,9 +62,24 @@ far : (c : tie.Then2)
 unfolding shifted
 far c = omega (arith, size-is (tested (c .before)), c .before .before .wrapping-add-u64 .ensures, c .if2 .taken)
 
-away : (c : tie.After-with-address)
+-- the new address is of whole spans, and fits the field
+aligned : (c : tie.Else2) → let s = c .before in let a = start (tested s) .args in s .before .wrapping-add-u64 .result % span (a .spot .level) ≡ 0
+unfolding shifted
+aligned c =
+    let s = c .before in
+    let a = start (tested s) .args in
+    let p = start (tested s) .pre in
+    ap (λ (n : ℕ). n % span (a .spot .level)) (s .before .wrapping-add-u64 .ensures)
+    ∙ shifted-whole (a .spot .level) (a .spot .va) (a .offset) (p .low) (p .hand .lies .whole) (whole (s .before .before))
+
+fits : (c : tie.Else2) → c .before .before .wrapping-add-u64 .result < 2 ^ 52
+fits c =
+    let s = c .before in
+    omega (arith, some (tested s), c .if2 .left, below s, start (tested s) .pre .geometry .field)
+
+away : (c : tie.After-with-field)
     → let a = start (tested (past₂ c)) .args in
-    Away (a .geometry) (a .spot) (a .offset) (past₂ c .before .wrapping-add-u64 .result) (c .with-address .result)
+    Away (a .geometry) (a .spot) (a .offset) (past₂ c .before .wrapping-add-u64 .result) (c .with-field .result)
 unfolding shifted
 away c =
     let s = past₂ c in
@@ -72,7 +88,7 @@ away c =
       whole = whole (s .before .before);
       low = omega (arith, size-is (tested s), to, below s, c .before .if2 .left);
       to = to;
-      word = c .with-address .ensures;
+      word = c .with-field .ensures (span (start (tested s) .args .spot .level)) (start (tested s) .pre .field) (aligned (c .before)) (fits (c .before));
     }
 
 -- ---- the needs
@@ -89,16 +105,6 @@ returns-2 : tie.Need-returns-2
 returns-2 c =
     let s = c .before .before in
     moves-past (start (tested s) .pre .held) (whole (s .before .before)) (far (c .before)) (c .with-offset2 .ensures)
-
-with-address-requires : tie.Need-with-address-requires
-unfolding shifted
-with-address-requires c κs =
-    let s = c .before in
-    let a = start (tested s) .args in
-    let p = start (tested s) .pre in
-    let pages = new-pages (a .spot .level) (a .spot .va) (a .offset) (p .hand .lies .whole) (whole (s .before .before)) in
-    let aligned = ap (λ (n : ℕ). n % 4096) (s .before .wrapping-add-u64 .ensures) ∙ pages in
-    (aligned, omega (arith, some (tested s), c .if2 .left, below s, p .geometry .field))
 
 remember-requires : tie.Need-remember-requires
 remember-requires c κs = search needs
@@ -123,5 +129,5 @@ pub move-leaf-spec : {M : Type 1} → statement M
 move-leaf-spec =
     tie.close
     (tie.spec sub-if1 (search needs) returns (search needs) sub-if2 (search needs) returns-2
-    with-address-requires remember-requires (search needs) (search needs) (search needs) (search needs) (search needs)
+    (search needs) remember-requires (search needs) (search needs) (search needs) (search needs) (search needs)
     (search needs) (search needs) (search needs) returns-3 (search needs) returns-4 (search needs) returns-5)

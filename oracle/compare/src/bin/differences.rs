@@ -61,7 +61,8 @@ fn main() {
     }
     if !record {
         failed += entry_operations();
-        println!("differences ({THIS}): {cases} inputs and the entry operations run, {failed} not as recorded, {left_out} not asked of the original");
+        print!("differences ({THIS}): {cases} inputs and the entry operations run, ");
+        println!("{failed} not as recorded, {left_out} not asked of the original");
     }
     std::process::exit((failed != 0) as i32);
 }
@@ -74,6 +75,9 @@ fn entry_operations() -> u32 {
     let set = |kind, a| (library::set_entry(old, kind, a), entries::set_entry(old, kind, a));
     let addr = |a| (library::set_addr(old, a), entries::set_addr(old, a));
     let at = |gva, level| (library::get_amd64_pte_index(gva, level), entries::index(gva, level as u8));
+    // The original's operations know no level.
+    let leaf = |word, level, a| (library::set_leaf_addr(word, level, a), entries::set_addr(word, a));
+    let read = |word, level| (library::leaf_gpa(word, level), entries::gpa(word));
     // A shift by 66.
     let far = if THIS == "checks" { None } else { Some(1) };
     let list = [
@@ -87,6 +91,13 @@ fn entry_operations() -> u32 {
         ("E8", library::mapping_size(4) == (0, 1 << 48) && library::mapping_size(5) == none),
         ("E9", unknown_kind(old) == kept),
         ("E10", contains()),
+        ("E11", leaf(0x20_10e3, 1, 0x40_0000) == ((0, 0x40_10e3), Some(0x40_00e3))),
+        ("E12", leaf(0x6000_00e3, 2, 0x8000_0000) == ((0, 0xa000_00e3), Some(0x8000_00e3))),
+        ("E13", read(0x20_10e3, 1) == ((1, 0x20_0000), (1, 0x20_1000))),
+        ("E14", read(0x6000_00e3, 2) == ((1, 0x4000_0000), (1, 0x6000_0000))),
+        ("E15", leaf(old, 1, 0x20_1000) == (kept, Some(0x20_1063))),
+        ("E16", leaf(old, 3, 0x2000) == (kept, Some(0x2063))),
+        ("E17", read(old, 3) == (none, (1, 0x1000)) && read(0, 3) == (none, (0, 0))),
     ];
     let bad: Vec<_> = list.iter().filter(|l| !l.1).collect();
     bad.iter().for_each(|l| println!("DIFFERENT NOW: {}", l.0));

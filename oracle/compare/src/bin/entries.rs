@@ -1,5 +1,5 @@
-//! entries COUNT SEED: random calls of the original's entry operations, indices, mapped sizes, tables and masks and of the library's,
-//! until COUNT of them were in the shared domain.
+//! entries COUNT SEED: random calls of the original's entry operations, indices, mapped sizes, tables and masks and of the
+//! library's, until COUNT of them were in the shared domain.
 
 use compare::entries::{round, Tally};
 use jobs::random::Random;

@@ -1,5 +1,5 @@
-//! vectors SEED: prints some of the original's answers, in the form that crates/vectors replays: small jobs of the shared domain, so
-//! many for each answer, then some hundred calls of each operation on entries, levels, tables and masks. Lines are words in
+//! vectors SEED: prints some of the original's answers, in the form that crates/vectors replays: small jobs of the shared domain,
+//! so many for each answer, then some hundred calls of each operation on entries, levels, tables and masks. Lines are words in
 //! hexadecimal.
 
 use compare::entries::{clear, entry, gpa, index, leaf_at, root_at, set_addr, set_entry, some_address, some_region};

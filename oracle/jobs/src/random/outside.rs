@@ -4,7 +4,8 @@ use super::{Draft, Random};
 use crate::document::*;
 use crate::{Job, Load};
 
-/// A good job, of five levels now and then, changed in one to three ways.
+/// A good job, of five levels now and then, changed in one to three ways; or one that may have bits below the addresses of leaves
+/// that are to move, changed in up to three ways.
 pub fn outside(r: &mut Random) -> Job {
     let mut d = Draft::new(r);
     if d.r.percent(15) {
@@ -13,10 +14,20 @@ pub fn outside(r: &mut Random) -> Job {
     d.region(false);
     d.tree();
     d.ranges();
-    if d.r.percent(40) {
+    let low = d.r.percent(25);
+    if low {
+        d.low_bits(40);
+    } else {
+        d.clear_low_bits();
+    }
+    if d.r.percent(if low { 80 } else { 40 }) {
         d.plant();
     }
-    for _ in 0..d.r.within(1, 3) {
+    // Some of the equal entries at new places are nearly equal then.
+    if low {
+        d.low_bits(20);
+    }
+    for _ in 0..d.r.within(!low as u64, 3) {
         match d.r.below(10) {
             0 | 1 => d.stray_offset(),
             2 => d.stray_table_offset(),
@@ -36,6 +47,20 @@ pub fn outside(r: &mut Random) -> Job {
 }
 
 impl Draft<'_> {
+    /// Changes one bit below the address in so many of a hundred large leaves, or clears them all.
+    fn low_bits(&mut self, many: u64) {
+        for (_, level, at) in leaves(&self.job, &self.image) {
+            if level > 0 && self.r.percent(many) {
+                let top = 11 + 9 * level as u64;
+                let any = self.r.within(12, top);
+                match self.r.below(4) {
+                    0 | 1 => self.image[at] ^= 1 << self.r.of(&[12, top, any]),
+                    _ => self.image[at] &= !FIELD | leaf_field(level),
+                }
+            }
+        }
+    }
+
     /// Offsets that are downward, lead to or past a bound, or lead two leaves together.
     fn stray_offset(&mut self) {
         let many = self.job.ranges.len() as u64;

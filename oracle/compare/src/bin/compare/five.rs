@@ -3,7 +3,8 @@
 //!
 //! - Under one more table, the page before the region: it is the new root, and its entry k leads to the old one. Every address,
 //!   of the tables and of what they map, is k * 2^48 higher.
-//! - A level higher: the tables stay where they are, and what they map lies 512 times as high and is 512 times as long.
+//! - A level higher: the tables stay where they are, and what they map lies 512 times as high and is 512 times as long. All leaves
+//!   are large then, and get bits below their address.
 
 use super::LARGE_EVERY;
 use compare::{difference, in_shared_domain, ours, Ours};
@@ -128,11 +129,20 @@ fn fitted(job: &Job, image: &[u64]) -> Job {
     fit
 }
 
-/// The words of a job's tables, with the addresses of their leaves 512 times as high.
+/// A leaf of the level as it stands a level higher. Its address is 512 times as high. Below it come flag bits of its own, 60 to 52,
+/// which the original keeps in a moved leaf and compares where it merges: so the new bits are to be kept and compared too. What a
+/// leaf that stays has below its address is still below it.
+fn stretched_leaf(word: u64, level: usize) -> u64 {
+    let flags = word >> 52 & 0x1ff;
+    let low = (0..=level).map(|l| flags * span(l)).sum::<u64>();
+    (word & !FIELD) | ((((word & FIELD) << 9) & FIELD) ^ low)
+}
+
+/// The words of a job's tables, with their leaves as they stand a level higher.
 fn stretched(job: &Job, list: &[u64]) -> Vec<u64> {
     let mut new = list.to_vec();
-    for (_, _, at) in leaves(job, list) {
-        new[at] = (new[at] & !FIELD) | (((new[at] & FIELD) << 9) & FIELD);
+    for (_, level, at) in leaves(job, list) {
+        new[at] = stretched_leaf(new[at], level);
     }
     new
 }
