@@ -1,4 +1,6 @@
 // The functions that a loader links: C's calling convention, a slice being a pointer and a length.
+#![tactic(auto)]
+
 ghost use Rattle.std.specs.Prelude.{length};
 ghost use Rattle.definitions.specs.Build.{job_of};
 ghost use Rattle.archwend.specs.Exports.{region_at, Answers, LoadsPage, ComparesImages, NamesInterface};

@@ -1,5 +1,7 @@
 // compare OLDER NEWER: how many entries of two images differ, and a line for each. Both files are read twice, a page at a time:
 // once to count, once to list.
+#![tactic(auto)]
+
 mod page;
 
 ghost use Rattle.std.specs.Prelude.{◌+◌, ◌^◌, ◌<◌, ◌≤◌};

@@ -1,6 +1,8 @@
 // The specification's examples through the build, on bytes. One line each: the offset of the one range, what differs from
 // the base, the report, and each entry of the output that differs from the image. After the indices the base under a level-4 root,
 // and then leaves with bits below their field.
+#![tactic(auto)]
+
 use build::CpuPagingState;
 use definitions::{Region, Report};
 use libc::STDOUT_FILENO;

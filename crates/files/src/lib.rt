@@ -1,5 +1,7 @@
 // Files as the programs handle them: read and written by an argument's number, as far as a buffer has room, and a line on standard
 // error for what goes wrong.
+#![tactic(auto)]
+
 ghost use Rattle.std.specs.Prelude.{◌≡◌, ◌≤◌, length, take};
 ghost use Rattle.files.specs.Meaning.{bytes_read};
 

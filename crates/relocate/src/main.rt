@@ -1,4 +1,6 @@
 // relocate IMAGE RANGES OUTPUT GPA SIZE CR3 CR4 OFFSET: moves the page tables of one file into another, and reports.
+#![tactic(auto)]
+
 ghost use Rattle.std.specs.Prelude.{◌≡◌, ◌*◌, ◌%◌};
 
 use build::CpuPagingState;

@@ -1,4 +1,6 @@
 // The report of a build as people read it, and the answer of a page's load: counts and levels in decimal, all else in hexadecimal.
+#![tactic(auto)]
+
 use definitions::{Place, Report, refusals};
 use levels::Answer;
 use libc::STDOUT_FILENO;

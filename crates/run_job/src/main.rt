@@ -1,4 +1,6 @@
 // run JOB IMAGE OUTPUT: does a job that is a text. The image, with the pages loaded, goes to IMAGE, and the tables to OUTPUT.
+#![tactic(auto)]
+
 mod job;
 mod line;
 mod load;

@@ -1,4 +1,6 @@
 // The refusals in words (§9.1): tests/refusals.sh holds them against the header's.
+#![tactic(auto)]
+
 use definitions::refusals;
 
 // Acceptance, or why the inputs of a build or a load are refused.

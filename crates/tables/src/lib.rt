@@ -1,4 +1,6 @@
 // Tables as the programs handle them: words by number, with nothing read or written past the end, and whether all is zero.
+#![tactic(auto)]
+
 ghost use Rattle.std.specs.Prelude.{◌≡◌};
 ghost use Rattle.tables.specs.Meaning.{word_at, Written, all_zero};
 

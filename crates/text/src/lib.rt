@@ -1,4 +1,6 @@
 // Numbers as people write them: hexadecimal, with or without 0x.
+#![tactic(auto)]
+
 ghost use Rattle.std.specs.Prelude.{◌≡◌};
 ghost use Rattle.text.specs.Hex.{digit_of, digits_of, hex_of, signed_of, prefixed_of, marked_of, number_of};
 

@@ -1,5 +1,7 @@
 // Replays the Rust's recorded answers (data/vectors, made as data/README says) through the proved operations, all but the build
 // as the library exports them. A line is up to four words in hexadecimal: what it is, and its numbers.
+#![tactic(auto)]
+
 use archwend::entries;
 use build::CpuPagingState;
 use definitions::Region;
