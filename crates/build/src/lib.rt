@@ -16,21 +16,21 @@ use reached::Reached;
 use region::TableIndex;
 
 // The registers that a build looks at.
-#[derive(Drop)]
+#[derive(Clone, Copy)]
 pub struct CpuPagingState {
     pub cr3: u64,
     pub cr4: u64,
 }
 
 // What the checks before pass 1 give: the root's table, or the first refusal that applies.
-#[derive(Drop)]
+#[derive(Clone, Copy)]
 pub enum Start {
     Root(usize),
     Refused(Refusal),
 }
 
 // How the passes end.
-#[derive(Drop)]
+#[derive(Clone, Copy)]
 pub enum Ended {
     Accepted(Report),
     Stopped(Refusal),

@@ -25,7 +25,7 @@ pub fn lengths_valid(older: u64, newer: u64) -> bool
 }
 
 // How listing the differences ended.
-#[derive(Drop)]
+#[derive(Clone, Copy)]
 enum Listing {
     Whole(usize),
     TooShort,

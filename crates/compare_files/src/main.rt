@@ -17,14 +17,14 @@ use page::{PAGE, TEXT, WORDS};
 const PAGES: u64 = 513;
 
 // Two sums over words: of the words, and of what the first sum was after each, so that their order counts too.
-#[derive(Drop)]
+#[derive(Clone, Copy)]
 struct Sums {
     plain: u64,
     running: u64,
 }
 
 // What a reading found: the bytes of each file, how many entries differ, and the sums over both.
-#[derive(Drop)]
+#[derive(Clone, Copy)]
 struct Reading {
     older: u64,
     newer: u64,
@@ -33,14 +33,14 @@ struct Reading {
 }
 
 // How a reading went; what went wrong is said already.
-#[derive(Drop)]
+#[derive(Clone, Copy)]
 enum Outcome {
     Read(Reading),
     Failed,
 }
 
 // How many bytes of a page of each file were read.
-#[derive(Drop)]
+#[derive(Clone, Copy)]
 enum Pair {
     Bytes(usize, usize),
     Broken,

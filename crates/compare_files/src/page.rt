@@ -12,7 +12,7 @@ pub const WORDS: usize = 2048;
 pub const TEXT: usize = 65536;
 
 // What a page gives: how many of its entries differ, and how many bytes their lines have.
-#[derive(Drop)]
+#[derive(Clone, Copy)]
 pub struct Page {
     pub count: usize,
     pub length: usize,

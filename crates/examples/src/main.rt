@@ -28,7 +28,7 @@ const ROOT_5: u64 = 0x10_3000;
 const MAPPED: usize = TABLE_2 + 1;
 
 // What an example changes of the base: the size of the region, and one word of the image.
-#[derive(Drop)]
+#[derive(Clone, Copy)]
 struct Variant {
     size: u64,
     slot: usize,

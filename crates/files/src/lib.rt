@@ -20,7 +20,7 @@ pub const OUTPUT_BYTES: usize = 2097152;
 pub const SCRATCH_WORDS: usize = 393216;
 
 // How reading into a buffer went: so many bytes are at its start, or a read failed.
-#[derive(Drop)]
+#[derive(Clone, Copy)]
 pub enum Filled {
     Bytes(usize),
     Failed,

@@ -14,7 +14,7 @@ const RECORD_BYTES: usize = 24;
 const RECORDS_BYTES: usize = RANGE_WORDS * 8;
 
 // The numbers of the command line.
-#[derive(Drop)]
+#[derive(Clone, Copy)]
 struct Asked {
     gpa: u64,
     size: u64,
@@ -24,7 +24,7 @@ struct Asked {
 }
 
 // The command line's numbers, or one of them is none.
-#[derive(Drop)]
+#[derive(Clone, Copy)]
 enum Given {
     All(Asked),
     Refused,

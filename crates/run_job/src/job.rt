@@ -4,7 +4,7 @@ use crate::load::LoadLine;
 use definitions::Region;
 
 // What is read so far: the region, the image's length, the words of the ranges, whether there is scratch, and what to build.
-#[derive(Drop)]
+#[derive(Clone, Copy)]
 pub struct Job {
     pub has_region: bool,
     pub region: Region,
@@ -17,7 +17,7 @@ pub struct Job {
 }
 
 // What a line is.
-#[derive(Drop)]
+#[derive(Clone, Copy)]
 enum Kind {
     Region,
     Image,
@@ -30,7 +30,7 @@ enum Kind {
 }
 
 // What a line makes of a job.
-#[derive(Drop)]
+#[derive(Clone, Copy)]
 pub enum Step {
     On(Job),
     Built(Job),
@@ -38,7 +38,7 @@ pub enum Step {
 }
 
 // A job and where its build line ends, or the first line that is wrong, or no build.
-#[derive(Drop)]
+#[derive(Clone, Copy)]
 pub enum Outcome {
     Whole(Job, usize),
     Wrong(Fault, u64),

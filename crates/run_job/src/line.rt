@@ -4,7 +4,7 @@ ghost use Rattle.std.specs.Prelude.{◌≤◌, length};
 use text::Number;
 
 // What is wrong with a line.
-#[derive(Drop)]
+#[derive(Clone, Copy)]
 pub enum Fault {
     Line,
     First,
@@ -17,21 +17,21 @@ pub enum Fault {
 }
 
 // A word: where it begins, and where it ends. Both are the line's end where there is none.
-#[derive(Drop)]
+#[derive(Clone, Copy)]
 pub struct Word {
     pub from: usize,
     pub to: usize,
 }
 
 // A number, and the place after it.
-#[derive(Drop)]
+#[derive(Clone, Copy)]
 pub struct Field {
     pub number: Number,
     pub next: usize,
 }
 
 // The numbers of a line, those that it has not as 0; or what is wrong with them.
-#[derive(Drop)]
+#[derive(Clone, Copy)]
 pub enum Numbers {
     Whole(u64, u64, u64),
     Wrong(Fault),

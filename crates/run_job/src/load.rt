@@ -10,28 +10,28 @@ pub const PAGE_BYTES: usize = 4104;
 const LONGEST: u64 = 4097;
 
 // The page's address, and how long its data is.
-#[derive(Drop)]
+#[derive(Clone, Copy)]
 pub struct Load {
     pub gpa: u64,
     pub length: usize,
 }
 
 // A load as its line asks for it, or what is wrong with the line.
-#[derive(Drop)]
+#[derive(Clone, Copy)]
 pub enum LoadLine {
     Whole(Load),
     Wrong(Fault),
 }
 
 // An index and a word, or a text that is none.
-#[derive(Drop)]
+#[derive(Clone, Copy)]
 enum Pair {
     Word(u64, u64),
     None,
 }
 
 // The data of a load, which is in the page then, or what is wrong with it.
-#[derive(Drop)]
+#[derive(Clone, Copy)]
 enum Data {
     Whole,
     Wrong(Fault),

@@ -5,7 +5,7 @@ ghost use Rattle.std.specs.Prelude.{◌≡◌};
 ghost use Rattle.text.specs.Hex.{digit_of, digits_of, hex_of, signed_of, prefixed_of, marked_of, number_of};
 
 // What a text says: a number below 2^64, or none.
-#[derive(Drop)]
+#[derive(Clone, Copy)]
 pub enum Number {
     Value(u64),
     Bad,

@@ -1,0 +1,44 @@
+-- `moved::find` meets its contract: if the last leaf before the gap is not lower the search is before the gap; else the place is the
+-- gap, if no leaf stands after it or the first one there is higher; else the search is after the gap. No loop.
+-- `low` is what all answers past the first test have in common.
+-- Assumes nothing.
+use Rattle.moved.proofs.Finding.{Low, low_last, low_none, sorted_front, sorted_back, finds_front, finds_free, gap_none, gap_between, gap_back, found_back}
+use Rattle.moved.specs.View.{Sought}
+use mathlib.Core.Logic.{⊎_elim}
+use mathlib.Core.Path.{subst}
+use borrow.Author.Rules.{rules}
+use Rattle.moved.proofs.find.Goals as goal
+
+-- ---- the needs
+pub search-requires : goal.search-requires
+search-requires c = (search rules, search rules, sorted_front c.requires)
+
+pub returns-then-key-last : goal.returns-then-key-last
+returns-then-key-last c = finds_front c.requires c.search.result (search rules) (search rules) c.search.ensures
+
+pub returns-then-back-eq0 : goal.returns-then-back-eq0
+returns-then-back-eq0 c =
+    let low : let a = c.args in Low a.scratch.now a.s a.key =     let held = c.requires in ⊎_elim (λ w. low_last held w.2.left) (λ w. low_none held w.left) c.if-front-gt0.branch in
+    let held = c.requires in
+    finds_free held (gap_none held (low) c.if-back-eq0.true)
+
+pub returns-then-key-next : goal.returns-then-key-next
+returns-then-key-next c =
+    let low : let a = c.args in Low a.scratch.now a.s a.key =     let held = c.requires in ⊎_elim (λ w. low_last held w.2.left) (λ w. low_none held w.left) c.if-front-gt0.branch in
+    let held = c.requires in
+    finds_free held (gap_between held (low) c.if-key-next.true)
+
+pub search-requires-2 : goal.search-requires-2
+search-requires-2 c = (search rules, search rules, sorted_back c.requires)
+
+pub overflow_sub-result : goal.overflow_sub-result
+overflow_sub-result c = (subst (Sought _ _ _ _) c.i-1.given.1 c.search-2.ensures).low
+
+pub returns-in-Taken : goal.returns-in-Taken
+returns-in-Taken c = found_back c.requires (subst (Sought _ _ _ _) c.enum_told-1.given.1 c.search-2.ensures)
+
+pub returns-in-Free : goal.returns-in-Free
+returns-in-Free c =
+    let low : let a = c.args in Low a.scratch.now a.s a.key =     let held = c.requires in ⊎_elim (λ w. low_last held w.2.left) (λ w. low_none held w.left) c.if-front-gt0.branch in
+    let held = c.requires in
+    finds_free held (gap_back held (low) (subst (Sought _ _ _ _) c.i-1.given.1 c.search-2.ensures))
