@@ -3,11 +3,9 @@
 -- `low` is what all answers past the first test have in common.
 -- Assumes nothing.
 use Rattle.moved.proofs.Finding.{Low, low_last, low_none, sorted_front, sorted_back, finds_front, finds_free, gap_none, gap_between, gap_back, found_back}
-use Rattle.moved.specs.View.{Sought}
-use mathlib.Core.Logic.{⊎_elim}
-use mathlib.Core.Path.{subst}
 use borrow.Author.Rules.{rules}
 use Rattle.moved.proofs.find.Goals as goal
+use Rattle.moved.proofs.find.Goals.{then-front-gt0+else-key-last, else-front-gt0}
 
 -- ---- the needs
 pub search-requires : goal.search-requires
@@ -18,27 +16,36 @@ returns-then-key-last c = finds_front c.requires c.search.result (search rules) 
 
 pub returns-then-back-eq0 : goal.returns-then-back-eq0
 returns-then-back-eq0 c =
-    let low : let a = c.args in Low a.scratch.now a.s a.key =     let held = c.requires in ⊎_elim (λ w. low_last held w.2.left) (λ w. low_none held w.left) c.if-front-gt0.branch in
-    let held = c.requires in
-    finds_free held (gap_none held (low) c.if-back-eq0.true)
+    let low : Low c.args.scratch.now c.args.s c.args.key =
+    elim c.if-front-gt0.branch [
+      | then-front-gt0+else-key-last w ↦ low_last c.requires w.if-key-last.false
+      | else-front-gt0 w ↦ low_none c.requires w.if-front-gt0.false
+    ] in
+    finds_free c.requires (gap_none c.requires low c.if-back-eq0.true)
 
 pub returns-then-key-next : goal.returns-then-key-next
 returns-then-key-next c =
-    let low : let a = c.args in Low a.scratch.now a.s a.key =     let held = c.requires in ⊎_elim (λ w. low_last held w.2.left) (λ w. low_none held w.left) c.if-front-gt0.branch in
-    let held = c.requires in
-    finds_free held (gap_between held (low) c.if-key-next.true)
+    let low : Low c.args.scratch.now c.args.s c.args.key =
+    elim c.if-front-gt0.branch [
+      | then-front-gt0+else-key-last w ↦ low_last c.requires w.if-key-last.false
+      | else-front-gt0 w ↦ low_none c.requires w.if-front-gt0.false
+    ] in
+    finds_free c.requires (gap_between c.requires low c.if-key-next.true)
 
 pub search-requires-2 : goal.search-requires-2
 search-requires-2 c = (search rules, search rules, sorted_back c.requires)
 
 pub overflow_sub-result : goal.overflow_sub-result
-overflow_sub-result c = (subst (Sought _ _ _ _) c.i-1.given.1 c.search-2.ensures).low
+overflow_sub-result c = c.in-Free.ensures.low
 
 pub returns-in-Taken : goal.returns-in-Taken
-returns-in-Taken c = found_back c.requires (subst (Sought _ _ _ _) c.enum_told-1.given.1 c.search-2.ensures)
+returns-in-Taken c = found_back c.requires c.in-Taken.ensures
 
 pub returns-in-Free : goal.returns-in-Free
 returns-in-Free c =
-    let low : let a = c.args in Low a.scratch.now a.s a.key =     let held = c.requires in ⊎_elim (λ w. low_last held w.2.left) (λ w. low_none held w.left) c.if-front-gt0.branch in
-    let held = c.requires in
-    finds_free held (gap_back held (low) (subst (Sought _ _ _ _) c.i-1.given.1 c.search-2.ensures))
+    let low : Low c.args.scratch.now c.args.s c.args.key =
+    elim c.if-front-gt0.branch [
+      | then-front-gt0+else-key-last w ↦ low_last c.requires w.if-key-last.false
+      | else-front-gt0 w ↦ low_none c.requires w.if-front-gt0.false
+    ] in
+    finds_free c.requires (gap_back c.requires low c.in-Free.ensures)

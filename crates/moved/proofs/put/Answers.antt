@@ -7,4 +7,4 @@ use Rattle.moved.proofs.put.Goals as goal
 pub returns : goal.returns
 returns c =
     let p = c.requires in
-    put_remembered p.0 p.1.0 p.1.1 c.move_gap-t.ensures c.write_slot.ensures
+    put_remembered p.held p.room p.gap c.move_gap-t.ensures c.write_slot.ensures

@@ -2,9 +2,9 @@
 -- The range's own is reached in two ways, that the region begins no lower and that it does not join.
 -- Assumes nothing.
 use mathlib.Core.Path.{◌∙◌}
-use mathlib.Core.Logic.{⊎_elim}
 use borrow.Author.Tests.{lt-ltb, le-ltb}
 use Rattle.ranges.proofs.one_range.Goals as goal
+use Rattle.ranges.proofs.one_range.Goals.{then-joined+else-gpa-first, else-joined}
 
 pub returns-then-gpa-first : goal.returns-then-gpa-first
 returns-then-gpa-first c = rw (c.if-joined.true, lt-ltb _ _ c.if-gpa-first.true) c.by_offset.ensures
@@ -12,8 +12,7 @@ returns-then-gpa-first c = rw (c.if-joined.true, lt-ltb _ _ c.if-gpa-first.true)
 pub returns : goal.returns
 returns c =
     let a = c.args in
-    c.by_offset-2.ensures
-    ∙ ⊎_elim
-    (λ w. rw (w.0.taken, le-ltb a.gpa a.first w.1.left))
-    (λ w. rw w.left)
-    c.if-joined.came
+    elim c.if-joined.branch [
+      | then-joined+else-gpa-first w ↦ c.by_offset-2.ensures ∙ rw (w.if-joined.true, le-ltb a.gpa a.first w.if-gpa-first.false)
+      | else-joined w ↦ c.by_offset-2.ensures ∙ rw w.if-joined.false
+    ]

@@ -4,4 +4,4 @@ use Rattle.region.proofs.Laws.{moved_is}
 use Rattle.region.proofs.moved_by.Goals as goal
 
 pub returns : goal.returns
-returns c = moved_is c.args.r c.args.offset c.wrapping_add_u64.result c.wrapping_add_u64.ensures
+returns c = moved_is c.args.r c.args.offset c.wrapping_add_u64.result c.wrapping_add_u64.ensures.value

@@ -11,7 +11,7 @@ use Rattle.reached.proofs.Reached.ask.Goals as goal
 
 pub returns-then-i-ge512 : goal.returns-then-i-ge512
 returns-then-i-ge512 c =
-    let w = c.args.t1.words in
+    let w = c.args.self.words in
     let n : length w ≡ 8 = array_length w64 8 w _ c.well_formed.0.1.1.0 in
     none_past w _ (omega arith)
 

@@ -15,7 +15,7 @@ loop-k-init c = (search rules, refl, search rules)
 
 pub loop-k-preserved : goal.loop-k-preserved
 loop-k-preserved c =
-    let w = c.args.t1.words in
+    let w = c.args.self.words in
     let fits = array_fits w64 8 w _ c.well_formed.0.1.1.0 in
     (omega arith, omega (arith, count_more w c.loop-k.k (fits c.loop-k.k)), omega arith)
 
