@@ -20,19 +20,19 @@ returns-then-not-has_leaves c =
 pub returns-then-addr-field-ne0 : goal.returns-then-addr-field-ne0
 unfolding set_leaf_address
 returns-then-addr-field-ne0 c =
-    let low : c.args.level < 3 =     leaf_level c.args.level (sym c.has_leaves.ensures ∙ c.if-not-has_leaves.false) in
-    let mask : FieldMask (span c.args.level) c.leaf_field-field.result = leaf_mask c.args.level _ (low) c.leaf_field-field.ensures in
+    let low : c.args.level < 3 = leaf_level c.args.level (sym c.has_leaves.ensures ∙ c.if-not-has_leaves.false) in
+    let mask : FieldMask (span c.args.level) c.leaf_field-field.result = leaf_mask c.args.level _ low c.leaf_field-field.ensures in
     let a = c.args in
     answer_refused _ _ a.self.entry
-    (leaf_fits a.level a.addr (low) ∙ misfits_mask (mask) a.addr c.ranges.addr.fits c.if-addr-field-ne0.true)
+    (leaf_fits a.level a.addr low ∙ misfits_mask mask a.addr c.ranges.addr.fits c.if-addr-field-ne0.true)
 
 pub returns : goal.returns
 unfolding set_leaf_address
 returns c =
-    let low : c.args.level < 3 =     leaf_level c.args.level (sym c.has_leaves.ensures ∙ c.if-not-has_leaves.false) in
-    let mask : FieldMask (span c.args.level) c.leaf_field-field.result = leaf_mask c.args.level _ (low) c.leaf_field-field.ensures in
-    let inside : let a = c.args in (a.addr % span a.level ≡ 0) × (a.addr < 2 ^ 52) = fits_mask (mask) c.args.addr c.fits.addr.fits c.if-addr-field-ne0.false in
+    let low : c.args.level < 3 = leaf_level c.args.level (sym c.has_leaves.ensures ∙ c.if-not-has_leaves.false) in
+    let mask : FieldMask (span c.args.level) c.leaf_field-field.result = leaf_mask c.args.level _ low c.leaf_field-field.ensures in
+    let inside : let a = c.args in (a.addr % span a.level ≡ 0) × (a.addr < 2 ^ 52) = fits_mask mask c.args.addr c.ranges.addr.fits c.if-addr-field-ne0.false in
     let a = c.args in
     let i = inside in
-    let fits = leaf_fits a.level a.addr (low) ∙ fits_yes (span a.level) a.addr i.0 i.1 in
-    answer_good _ _ _ a.self.entry fits (c.with_field.ensures (span a.level) (mask) i.0 i.1)
+    let fits = leaf_fits a.level a.addr low ∙ fits_yes (span a.level) a.addr i.0 i.1 in
+    answer_good _ _ _ a.self.entry fits (c.with_field.ensures (span a.level) mask i.0 i.1)
