@@ -12,11 +12,11 @@ pub insert-done-requires : goal.insert-done-requires
 insert-done-requires c = ready c.loop-i.invariant.1 c.loop-i-test.true c.read-leaf.ensures c.requires
 
 pub returns-in-Stop : goal.returns-in-Stop
-returns-in-Stop c = stopped c.loop-i.invariant.1 c.loop-i-test.true c.read-leaf.ensures c.insert-done.ensures c.done-1.given.1
+returns-in-Stop c = stopped c.loop-i.invariant.1 c.loop-i-test.true c.read-leaf.ensures c.insert-done.ensures c.in-Stop.is
 
 pub loop-i-preserved : goal.loop-i-preserved
 loop-i-preserved c =
-    let left = again c.loop-i.invariant.1 c.loop-i-test.true c.read-leaf.ensures c.insert-done.ensures c.done-in-Go-1.given.1 in
+    let left = again c.loop-i.invariant.1 c.loop-i-test.true c.read-leaf.ensures c.insert-done.ensures c.in-Go.is in
     (omega arith, left)
 
 pub returns : goal.returns

@@ -7,7 +7,7 @@ use Rattle.pass2.proofs.All.{Left}
 use Rattle.pass2.proofs.insert_all.Given as goal
 
 abbrev pub invariant-loop-i : goal.invariant-loop-i
-invariant-loop-i l = (l.i ≤ l.count) × Left l.scratch l.geometry l.new l.root l.count l.initial.fill l.initial.out l.out l.fill l.i
+invariant-loop-i l = (l.i ≤ l.count) × Left l.scratch l.geometry l.new l.root l.count l.initial.s l.initial.out l.out l.s l.i
 
 abbrev pub decreases-loop-i : goal.decreases-loop-i
 decreases-loop-i l = l.count - l.i

@@ -18,18 +18,18 @@ step_down-step-requires c =
 pub returns-in-Blocked : goal.returns-in-Blocked
 returns-in-Blocked c =
     let inv = c.loop-level.invariant in
-    stopped inv.0 inv.1.0 c.loop-level-test.true c.step_down-step.ensures c.step-1.given.1
+    stopped inv.0 inv.1.0 c.loop-level-test.true c.step_down-step.ensures c.in-Blocked.is
 
 pub word_at-word-requires-in-Down : goal.word_at-word-requires-in-Down
 word_at-word-requires-in-Down c =
     let inv = c.loop-level.invariant in
-    let rest = again inv.0 inv.1.0 c.loop-level-test.true c.step_down-step.ensures c.step-in-Down-1.given.1 in
+    let rest = again inv.0 inv.1.0 c.loop-level-test.true c.step_down-step.ensures c.in-Down.is in
     (omega (arith, inv.2), small rest.ready, c.requires.1)
 
 pub loop-level-preserved : goal.loop-level-preserved
 loop-level-preserved c =
     let inv = c.loop-level.invariant in
-    let rest = again inv.0 inv.1.0 c.loop-level-test.true c.step_down-step.ensures c.step-in-Down-1.given.1 in
+    let rest = again inv.0 inv.1.0 c.loop-level-test.true c.step_down-step.ensures c.in-Down.is in
     (rest, c.word_at-word-in-Down.ensures, omega (arith, inv.2))
 
 pub place-requires : goal.place-requires

@@ -12,10 +12,10 @@ use Rattle.pass2.proofs.word_at.Goals as goal
 -- ---- the needs
 pub overflow_add-result : goal.overflow_add-result
 overflow_add-result c =
-    let read : let a = c.args in get_or a.t3 a.level 0 ≡ index a.level a.address = indexed_at _ _ _ c.requires.2 c.requires.0 in
+    let read : let a = c.args in get_or a.path a.level 0 ≡ index a.level a.address = indexed_at _ _ _ c.requires.2 c.requires.0 in
     let e = read in search rules
 
 pub returns : goal.returns
 returns c =
-    let read : let a = c.args in get_or a.t3 a.level 0 ≡ index a.level a.address = indexed_at _ _ _ c.requires.2 c.requires.0 in
+    let read : let a = c.args in get_or a.path a.level 0 ≡ index a.level a.address = indexed_at _ _ _ c.requires.2 c.requires.0 in
     let e = read in (ap (λ (n : ℕ). 512 * c.args.table + n) e, omega arith)
