@@ -1,10 +1,12 @@
 -- `pass1::first_pass` meets its contract: the root is marked, nothing is taken out or refused yet, and `walk_table` does the rest.
--- No loop. The places are seen from the empty store.
+-- No loop.
 -- Assumes nothing.
 use Rattle.pass1.proofs.Walking.{lies_root, first_is}
+use Rattle.reached.proofs.Laws.{marked_low}
+use Rattle.definitions.specs.Words.{Tables, mark}
 use Rattle.definitions.specs.declared.Refusal.{Refusal}
 use Rattle.moved.proofs.Leaves.{empty_held}
-use Rattle.std.proofs.Common.{ap, arith}
+use Rattle.std.proofs.Common.{ap, ◌∙◌, ◌<◌, arith}
 use Rattle.pass1.proofs.first_pass.Goals as goal
 
 pub walk_table-requires : goal.walk_table-requires
@@ -21,5 +23,7 @@ walk_table-requires c =
 
 pub returns : goal.returns
 returns c =
-    let empty = ⟪afterempty⟫ in
-    first_is _ _ _ _ _ _ _ _ _ (marked empty.before) empty.empty.ensures c.walk_table.ensures
+    let old = c.requires.0.plan.old in
+    let few : c.args.root < 512 = omega (arith, c.requires.1, old.fits, old.most) in
+    let marked = c.mark-reached.ensures ∙ marked_low _ _ few ∙ ap (λ (s : Tables). mark s c.args.root) c.none-none.ensures in
+    first_is _ _ _ _ _ _ _ _ _ marked c.empty-store.ensures c.walk_table.ensures

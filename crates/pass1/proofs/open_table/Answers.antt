@@ -9,12 +9,12 @@ use Rattle.pass1.proofs.open_table.Goals as goal
 pub follow_table-requires : goal.follow_table-requires
 follow_table-requires c =
     let points : Points c.args.spot c.address-target.result = record { pointer = c.requires.pointer; target = c.address-target.ensures } in
-    (c.requires, (points, sym c.calculate_page_table_index-found.ensures ∙ ap index_of c.found-1.given.1))
+    record { open_fits = c.requires; points = (points, sym c.calculate_page_table_index-found.ensures ∙ ap index_of c.in-At.is) }
 
 pub pass_outside-requires : goal.pass_outside-requires
 pass_outside-requires c =
     let points : Points c.args.spot c.address-target.result = record { pointer = c.requires.pointer; target = c.address-target.ensures } in
-    (points, sym c.calculate_page_table_index-found.ensures ∙ ap index_of c.enum_told-1.given.1, c.requires.runs)
+    (points, sym c.calculate_page_table_index-found.ensures ∙ ap index_of c.in-Outside.is, c.requires.runs)
 
 pub returns-in-At : goal.returns-in-At
 returns-in-At c = search rules

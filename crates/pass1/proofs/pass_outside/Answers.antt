@@ -7,11 +7,11 @@ use Rattle.pass1.proofs.pass_outside.Goals as goal
 
 pub returns-in-At : goal.returns-in-At
 returns-in-At c m =
-    let there = sym c.calculate_page_table_index-there.ensures ∙ ap index_of c.enum_told-1.given.1 in
+    let there = sym c.calculate_page_table_index-there.ensures ∙ ap index_of c.in-At.is in
     opens_moved c.requires.0 c.requires.1 there (refused_is c.args.state c.at.ensures c.refused.ensures c.done.ensures)
 
 pub returns-in-Outside : goal.returns-in-Outside
 returns-in-Outside c m =
     let p = c.requires in
-    let there = sym c.calculate_page_table_index-there.ensures ∙ ap index_of c.enum_told-in-Outside-1.given.1 in
+    let there = sym c.calculate_page_table_index-there.ensures ∙ ap index_of c.in-Outside.is in
     opens_outside p.0 p.1 there p.2 c.done-in-Outside.ensures

@@ -27,7 +27,7 @@ returns-in-Stay c =
     let points : let x = c.args.spot in pointer x.level x.entry ≡ false = sym c.points_to_table.ensures ∙ c.if-points_to_table.false in
     let sized : let x = c.args.spot in x.size ≡ span x.level = c.requires.size in
     let a = c.args in
-    told_stay a.plan a.ranges.now a.spot (here) (points) (sized) _ c.lookup-said.ensures c.enum_told-1.given.1
+    told_stay a.plan a.ranges.now a.spot here points sized _ c.lookup-said.ensures c.in-Stay.is
 
 pub returns-in-By : goal.returns-in-By
 returns-in-By c =
@@ -35,4 +35,4 @@ returns-in-By c =
     let points : let x = c.args.spot in pointer x.level x.entry ≡ false = sym c.points_to_table.ensures ∙ c.if-points_to_table.false in
     let sized : let x = c.args.spot in x.size ≡ span x.level = c.requires.size in
     let a = c.args in
-    told_by a.plan a.ranges.now a.spot (here) (points) (sized) _ c.lookup-said.ensures _ c.said-1.given.1
+    told_by a.plan a.ranges.now a.spot here points sized _ c.lookup-said.ensures _ c.in-By.is
