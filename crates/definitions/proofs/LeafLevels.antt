@@ -11,7 +11,7 @@ use Rattle.definitions.specs.Words.{slot}
 use Rattle.definitions.specs.Geometry.{span}
 use Rattle.definitions.specs.Inputs.{place_at}
 use Rattle.definitions.specs.Step.{Step, go}
-use Rattle.definitions.specs.Pass1.{Plan, Moved, Act, keep, move, follow, refuse, State, taken, remember, without, pointed, perform, visit, walk_table}
+use Rattle.definitions.specs.Pass1.{Plan, Moved, Act, keep, move, follow, refuse, State, taken, without, pointed, perform, visit, walk_table}
 use Rattle.definitions.specs.Build.{height, first_pass, root, plan_of}
 use Rattle.definitions.specs.Inputs.{Job}
 use Rattle.definitions.proofs.Step.{After, after_unless, after_times}

@@ -7,7 +7,6 @@ use Rattle.definitions.specs.Words.{Mem, Tables, slot, mark, no_tables, words_of
 use Rattle.definitions.specs.Geometry.{root_height, span}
 use Rattle.definitions.specs.Step.{Step, and_then, times, stopped}
 use Rattle.definitions.specs.Pass1.{State, Act, perform, visit, walk_table}
-use Rattle.definitions.specs.Pass1 as D
 use Rattle.definitions.proofs.Geometry.{SoundGeometry, span_pos, span_suc}
 use Rattle.definitions.specs.declared.Moved.{Moved}
 use Rattle.definitions.specs.declared.Refusal.{Refusal}

@@ -10,5 +10,6 @@ pub returns : goal.returns
 returns c =
     let a = c.args in
     let r = region_at a.gpa a.size a.used in
-    let e = c.set_page_data.ensures ∙ ap (λ (g : Geometry). load g r a.image.now a.page_gpa a.data.now) c.geometry_of-geometry.ensures in
+    let e =
+    c.set_page_data.ensures ∙ ap (λ (g : Geometry). load g r a.image.now a.page_gpa a.data.now) c.geometry_of-geometry.ensures in
     record { number = ap (λ (l : Loaded). l.number) e; loaded = ap (λ (l : Loaded). l.image) e }

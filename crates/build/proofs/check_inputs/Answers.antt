@@ -1,5 +1,7 @@
--- `build::check_inputs` meets its contract: seven checks in a row, in `start`'s order, each of which refuses where it fails. No loop.
--- The checks are of the bound that the caller read off cr4: the facts below turn what they gave into what `start` asks, for `start`'s laws.
+-- `build::check_inputs` meets its contract: seven checks in a row, in `start`'s order, each of which refuses where it fails. No
+-- loop.
+-- The checks are of the bound that the caller read off cr4: the facts below turn what they gave into what `start` asks, for
+-- `start`'s laws.
 -- Assumes nothing.
 use Rattle.region.proofs.Laws.{in_table, in_no_table}
 use Rattle.region.specs.Meaning.{index_of}
@@ -31,10 +33,13 @@ module _ (j : I.Job) (g : Geometry) (e : g ≡ geometry_of j.cr4) where
   region_is : {b : Bool} → b ≡ region_ok g.limit j.region → region_ok (geometry j).limit j.region ≡ b
   region_is h = ap (λ (l : ℕ). region_ok l j.region) limit_is ∙ sym h
 
-  offset_is : {b : Bool} → b ≡ offset_ok g.limit j.region j.table_offset → offset_ok (geometry j).limit j.region j.table_offset ≡ b
+  offset_is : {b : Bool}
+      → b ≡ offset_ok g.limit j.region j.table_offset → offset_ok (geometry j).limit j.region j.table_offset ≡ b
   offset_is h = ap (λ (l : ℕ). offset_ok l j.region j.table_offset) limit_is ∙ sym h
 
-  ranges_is : {b : Bool} → b ≡ (list_ok j.words && ranges_ok g.limit j.region 0 (ranges_of j.words)) → (list_ok j.words && each_ok j) ≡ b
+  ranges_is : {b : Bool}
+      → b ≡ (list_ok j.words && ranges_ok g.limit j.region 0 (ranges_of j.words)) →
+  (list_ok j.words && each_ok j) ≡ b
   ranges_is h = ap (λ (l : ℕ). list_ok j.words && ranges_ok l j.region 0 (ranges_of j.words)) limit_is ∙ sym h
 
 -- ---- the goals

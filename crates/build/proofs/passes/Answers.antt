@@ -7,7 +7,7 @@ use mathlib.Core.Path.{refl}
 use borrow.Author.Rules.{rules}
 use Rattle.build.proofs.passes.Goals as goal
 
--- ---- the needs
+-- ---- the goals
 pub first_pass-walked-requires : goal.first_pass-walked-requires
 first_pass-walked-requires c =
     let ready = c.requires.1 in

@@ -12,17 +12,26 @@ returns-then-count-eq0 c = let e = c.if-count-eq0.true in rw e (record { answere
 
 pub overflow_mul-start : goal.overflow_mul-start
 overflow_mul-start c =
-    let inside : 4096 * get_or c.args.list.now 0 0 + 4096 ≤ length c.args.newer.now = let f = first_byte_lem c.args.count c.args.list.now c.if-count-eq0.false in let b = byte_count_lem c.args.count c.if-count-eq0.false in omega (arith, f, b, c.requires.1) in
+    let inside : 4096 * get_or c.args.list.now 0 0 + 4096 ≤ length c.args.newer.now =
+    let f =
+    first_byte_lem c.args.count c.args.list.now c.if-count-eq0.false in let b = byte_count_lem c.args.count c.if-count-eq0.false in
+    omega (arith, f, b, c.requires.1) in
     omega (arith, inside)
 
 pub overflow_add-to : goal.overflow_add-to
 overflow_add-to c =
-    let inside : 4096 * get_or c.args.list.now 0 0 + 4096 ≤ length c.args.newer.now = let f = first_byte_lem c.args.count c.args.list.now c.if-count-eq0.false in let b = byte_count_lem c.args.count c.if-count-eq0.false in omega (arith, f, b, c.requires.1) in
+    let inside : 4096 * get_or c.args.list.now 0 0 + 4096 ≤ length c.args.newer.now =
+    let f =
+    first_byte_lem c.args.count c.args.list.now c.if-count-eq0.false in let b = byte_count_lem c.args.count c.if-count-eq0.false in
+    omega (arith, f, b, c.requires.1) in
     omega (arith, inside)
 
 pub slice_bounds-result-end-2 : goal.slice_bounds-result-end-2
 slice_bounds-result-end-2 c =
-    let inside : 4096 * get_or c.args.list.now 0 0 + 4096 ≤ length c.args.newer.now = let f = first_byte_lem c.args.count c.args.list.now c.if-count-eq0.false in let b = byte_count_lem c.args.count c.if-count-eq0.false in omega (arith, f, b, c.requires.1) in
+    let inside : 4096 * get_or c.args.list.now 0 0 + 4096 ≤ length c.args.newer.now =
+    let f =
+    first_byte_lem c.args.count c.args.list.now c.if-count-eq0.false in let b = byte_count_lem c.args.count c.if-count-eq0.false in
+    omega (arith, f, b, c.requires.1) in
     inside
 
 pub returns : goal.returns

@@ -2,7 +2,7 @@
 use Rattle.definitions.specs.Compare.{changes}
 use Rattle.compare.proofs.Come.{begins, same, more, stops, ends}
 use mathlib.Core.Path.{refl}
-use Prim.Native.Nat.{◌-◌, ◌/◌}
+use Prim.Native.Nat.{◌/◌}
 use lib.ListN.{length}
 use native.Mathlib.Omega.{arith}
 use Rattle.compare.proofs.list_changes.Goals as goal
@@ -48,7 +48,8 @@ loop-k-preserved-then-before-after c =
     )
 
 pub loop-k-preserved : goal.loop-k-preserved
-loop-k-preserved c = (same _ _ _ c.loop-k.invariant.0 c.read_word-before.ensures c.read_word-after.ensures c.if-before-after.false, omega arith)
+loop-k-preserved c =
+    (same _ _ _ c.loop-k.invariant.0 c.read_word-before.ensures c.read_word-after.ensures c.if-before-after.false, omega arith)
 
 pub returns : goal.returns
 unfolding changes

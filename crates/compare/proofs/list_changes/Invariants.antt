@@ -9,7 +9,8 @@ use lib.ListN.{length}
 use Rattle.compare.proofs.list_changes.Given as goal
 
 abbrev pub invariant-loop-k : goal.invariant-loop-k
-invariant-loop-k l = Come (words_of l.older) (words_of l.newer) (length l.initial.list) l.list l.count l.k × (l.k ≤ length l.newer / 8)
+invariant-loop-k l =
+    Come (words_of l.older) (words_of l.newer) (length l.initial.list) l.list l.count l.k × (l.k ≤ length l.newer / 8)
 
 abbrev pub decreases-loop-k : goal.decreases-loop-k
 decreases-loop-k l = length l.newer / 8 - l.k

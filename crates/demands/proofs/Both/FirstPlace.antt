@@ -11,7 +11,7 @@ use Rattle.definitions.specs.Inputs.{Job, place_at}
 use Rattle.definitions.specs.Ranges.{used_tables, all_tables}
 use Rattle.definitions.specs.Pass1.{State}
 use Rattle.definitions.specs.Build.{plan_of}
-use Rattle.definitions.specs.Walk.{Spot, End, nothing, in_leaf, past}
+use Rattle.definitions.specs.Walk.{Spot, End, nothing, in_leaf}
 use Rattle.definitions.specs.Demand.{Proper, TablePlace, Distinct}
 use Rattle.definitions.specs.Conditions.{BadPlaces, on_leaf, in_span, on_past, on_table, on_other, no_room}
 use Rattle.definitions.specs.Order.{Earlier, NeededBefore, InWay, stands, no_table, FirstInWay}

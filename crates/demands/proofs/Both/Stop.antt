@@ -13,7 +13,7 @@ use Rattle.definitions.specs.Inputs.{Job, place_at}
 use Rattle.definitions.specs.Ranges.{used_tables}
 use Rattle.definitions.specs.Pass1.{State}
 use Rattle.definitions.specs.Walk.{in_leaf, past}
-use Rattle.definitions.specs.Demand.{Proper, stop_before, Moves, TablePlace, Needed}
+use Rattle.definitions.specs.Demand.{Proper, stop_before, Moves, TablePlace}
 use Rattle.definitions.specs.Order.{NeededBefore}
 use Rattle.definitions.specs.declared.Moved.{Moved}
 use Rattle.definitions.specs.declared.Place.{Place}

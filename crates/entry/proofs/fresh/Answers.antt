@@ -1,4 +1,5 @@
--- `entry::fresh` meets its contract: two tests in the order of `fits_field`, each of which refuses; past both, the flags are set. No loop.
+-- `entry::fresh` meets its contract: two tests in the order of `fits_field`, each of which refuses; past both, the flags are set.
+-- No loop.
 -- Assumes nothing.
 use Rattle.definitions.proofs.Answers.{good}
 use Rattle.definitions.specs.Entry.{fits_field, answer_if}

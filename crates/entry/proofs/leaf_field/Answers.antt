@@ -1,4 +1,5 @@
--- `entry::leaf_field` meets its contract: the list of fields is the definition's, level by level, for the levels that have leaves. No loop.
+-- `entry::leaf_field` meets its contract: the list of fields is the definition's, level by level, for the levels that have leaves.
+-- No loop.
 -- Assumes nothing.
 use Rattle.entry.specs.Kinds.{leaf_field}
 use Rattle.entry.proofs.Bits.{leaf_fields, leaf_fields_lem, leaf_level}
@@ -20,5 +21,5 @@ pub returns : goal.returns
 returns c =
     let low : c.args.level < 3 = leaf_level c.args.level (sym c.has_leaves.ensures ∙ c.if-not-has_leaves.false) in
     let l = c.args.level in
-    let e : get_or leaf_fields l 0 ≡ leaf_field l = leaf_fields_lem l (low) in
+    let e : get_or leaf_fields l 0 ≡ leaf_field l = leaf_fields_lem l low in
     e

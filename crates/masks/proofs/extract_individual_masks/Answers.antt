@@ -6,7 +6,7 @@ use Rattle.definitions.proofs.Entry.{one_shl}
 use Rattle.masks.proofs.Lowest.{taken_none, taken_room, taken_more, taken_done, zeros_few, others_less}
 use Rattle.masks.proofs.extract_individual_masks.Goals as goal
 
--- ---- the needs
+-- ---- the goals
 pub loop-rest-init : goal.loop-rest-init
 loop-rest-init c = taken_none c.args.mask c.ranges.mask.fits
 

@@ -1,4 +1,5 @@
--- `moved::find` meets its contract: if the last leaf before the gap is not lower the search is before the gap; else the place is the
+-- `moved::find` meets its contract: if the last leaf before the gap is not lower the search is before the gap; else the place is
+-- the
 -- gap, if no leaf stands after it or the first one there is higher; else the search is after the gap. No loop.
 -- `low` is what all answers past the first test have in common.
 -- Assumes nothing.
@@ -7,7 +8,7 @@ use borrow.Author.Rules.{rules}
 use Rattle.moved.proofs.find.Goals as goal
 use Rattle.moved.proofs.find.Goals.{then-front-gt0+else-key-last, else-front-gt0}
 
--- ---- the needs
+-- ---- the goals
 pub search-requires : goal.search-requires
 search-requires c = (search rules, search rules, sorted_front c.requires)
 

@@ -7,7 +7,7 @@ use native.Mathlib.Omega.{arith}
 use borrow.Author.Rules.{rules}
 use Rattle.moved.proofs.remember.Goals as goal
 
--- ---- the needs
+-- ---- the goals
 pub find-found-requires : goal.find-found-requires
 find-found-requires c = search rules
 

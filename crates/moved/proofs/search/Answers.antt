@@ -7,7 +7,7 @@ use native.Mathlib.Omega.{arith}
 use borrow.Author.Rules.{rules}
 use Rattle.moved.proofs.search.Goals as goal
 
--- ---- the needs
+-- ---- the goals
 pub returns-then-k-key : goal.returns-then-k-key
 returns-then-k-key c =
     let mid : ℕ = c.loop-lo.lo + (c.loop-lo.hi - c.loop-lo.lo) / 2 in
@@ -20,7 +20,7 @@ loop-lo-preserved-then-k-key-2 c =
       low = search rules;
       order = search rules;
       high = search rules;
-      below = below_mid (mid) c.args.key c.requires.2 (omega arith) (omega arith) c.if-k-key-2.true;
+      below = below_mid mid c.args.key c.requires.2 (omega arith) (omega arith) c.if-k-key-2.true;
       above = c.loop-lo.invariant.above;
     }
 
@@ -33,10 +33,10 @@ loop-lo-preserved c =
       order = search rules;
       high = search rules;
       below = c.loop-lo.invariant.below;
-      above = above_mid (mid) c.args.key c.requires.2 (omega arith) (omega arith) higher;
+      above = above_mid mid c.args.key c.requires.2 (omega arith) (omega arith) higher;
     }
 
 pub returns : goal.returns
 returns c =
-    let l = c.loop-lo in
-    record { low = omega arith; high = omega arith; below = l.invariant.below; above = λ k p q. l.invariant.above k (omega arith) q }
+    let i = c.loop-lo.invariant in
+    record { low = omega arith; high = omega arith; below = i.below; above = λ k p q. i.above k (omega arith) q }

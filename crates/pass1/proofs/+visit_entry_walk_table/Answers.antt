@@ -1,7 +1,7 @@
 -- `pass1::visit_entry` and `pass1::walk_table` meet their contracts; see Invariants.antt. What holds of the entry that a turn of
 -- `walk_table` reads is said once, of plain values; then come the goals, by what the task at the entry is.
 -- Assumes nothing.
-use Rattle.pass1.proofs.Walking.{inner, lies_with, lies_low, at_hand, skip_visits, stored_visits, refused_visits, entry_at, Turning, begin, over, again, stops}
+use Rattle.pass1.proofs.Walking.{inner, lies_with, lies_low, at_hand, skip_visits, stored_visits, refused_visits, entry_at, begin, over, again, stops}
 use Rattle.pass1.specs.Walks.{spot_in, Asked, AtHand, WalkFits}
 use Rattle.pass1.specs.declared.Plan.{Plan}
 use Rattle.pass1.specs.declared.Spot.{Spot}
@@ -10,11 +10,12 @@ use Rattle.definitions.specs.Words.{slot, words_of}
 use Rattle.definitions.specs.Geometry.{span}
 use Rattle.entry.specs.Kinds.{leaf_field}
 use Rattle.entry.proofs.Bits.{leaf_mask}
-use Rattle.std.proofs.Common.{◌≡◌, ℕ, ◌+◌, ◌*◌, ◌^◌, ◌<◌, ◌≤◌, List, length, sym, refl, ap, ◌∙◌, arith, rules}
+use Rattle.std.proofs.Common.{◌≡◌, ℕ, ◌+◌, ◌*◌, ◌^◌, ◌<◌, ◌≤◌, List, sym, refl, ap, ◌∙◌, arith, rules}
 use Rattle.pass1.proofs.+visit_entry_walk_table.Goals as goal
 
 -- ---- a turn of walk_table, in table t of level l, with what an entry maps in n
-module _ (b : ℕ) (xs ws : List ℕ) (p : Plan) (t l a : ℕ) (w : Walk) (pre : WalkFits b xs ws p t l a w) (n : ℕ) (size : n ≡ span l) where
+module _ (b : ℕ) (xs ws : List ℕ) (p : Plan) (t l a : ℕ) (w : Walk) (pre : WalkFits b xs ws p t l a w)
+    (n : ℕ) (size : n ≡ span l) where
   -- no sum over the table's addresses wraps
   sums : a + 512 * n ≤ 2 ^ 63
   sums = omega (arith, size, lies_low _ _ _ pre.asked.plan.geometry pre.lies)
@@ -58,7 +59,9 @@ walk_table-overflow_add-va t c =
 pub walk_table-task_at-task-requires : goal.walk_table-task_at-task-requires
 walk_table-task_at-task-requires t c =
     let k = c.requires.asked in
-    let at = hand _ _ _ _ _ _ _ _ c.requires _ c.span_of-size.ensures.0 c.loop-i.out c.loop-i.i _ c.spot_at-spot.ensures _ c.loop-i.invariant.bytes
+    let at =
+    hand _ _ _ _ _ _ _ _ c.requires _ c.span_of-size.ensures.0 c.loop-i.out c.loop-i.i _ c.spot_at-spot.ensures _
+    c.loop-i.invariant.bytes
     c.loop-i-test.true in
     record { plan = k.plan; list = k.list; level = at.level; size = at.size; lies = at.lies }
 
@@ -77,7 +80,8 @@ walk_table-move_leaf-departure-requires t c =
     let of = c.leaf_field-field.ensures ∙ sym (ap (λ (x : Spot). leaf_field x.level) c.spot_at-spot.ensures) in
     record {
       geometry = c.requires.asked.plan.geometry;
-      hand = hand _ _ _ _ _ _ _ _ c.requires _ c.span_of-size.ensures.0 c.loop-i.out c.loop-i.i _ c.spot_at-spot.ensures _ inv.bytes c.loop-i-test.true;
+      hand = hand _ _ _ _ _ _ _ _ c.requires _ c.span_of-size.ensures.0 c.loop-i.out c.loop-i.i _ c.spot_at-spot.ensures _
+          inv.bytes c.loop-i-test.true;
       low = c.in-Leaf.ensures.0;
       field = leaf_mask _ _ c.in-Leaf.ensures.0 of;
       held = inv.held;
@@ -105,8 +109,10 @@ walk_table-visit_entry-s-requires t c =
     let inv = c.loop-i.invariant in (
       omega (arith, c.decreases, ap (λ (x : Spot). x.level) c.spot_at-spot.ensures),
       record {
-        asked = asked _ _ _ _ _ _ _ _ c.requires _ c.span_of-size.ensures.0 c.loop-i.out c.loop-i.i _ c.spot_at-spot.ensures _ inv.bytes;
-        hand = hand _ _ _ _ _ _ _ _ c.requires _ c.span_of-size.ensures.0 c.loop-i.out c.loop-i.i _ c.spot_at-spot.ensures _ inv.bytes c.loop-i-test.true;
+        asked = asked _ _ _ _ _ _ _ _ c.requires _ c.span_of-size.ensures.0 c.loop-i.out c.loop-i.i _ c.spot_at-spot.ensures _
+            inv.bytes;
+        hand = hand _ _ _ _ _ _ _ _ c.requires _ c.span_of-size.ensures.0 c.loop-i.out c.loop-i.i _ c.spot_at-spot.ensures _
+            inv.bytes c.loop-i-test.true;
         pointer = c.in-Table.ensures;
         runs = inv.runs;
         held = inv.held;

@@ -1,4 +1,5 @@
--- `pass1::visit_entry` and `pass1::walk_table` meet their contracts; they call each other, and the level falls. `visit_entry` opens a
+-- `pass1::visit_entry` and `pass1::walk_table` meet their contracts; they call each other, and the level falls. `visit_entry` opens
+-- a
 -- pointer and walks the table that it points to, one level down. `walk_table` has one loop, over the entries i of its table.
 -- Invariant: `Turning`, what is left from entry i on gives the whole, and the state is fit to go on. Measure of the loop: 512 - i.
 -- Measure of the calls: twice the level, and one more for a table.

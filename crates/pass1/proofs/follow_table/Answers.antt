@@ -1,4 +1,5 @@
--- `pass1::follow_table` meets its contract: a free or a reached table is refused, else the entry is written and the table marked. No loop.
+-- `pass1::follow_table` meets its contract: a free or a reached table is refused, else the entry is written and the table marked.
+-- No loop.
 -- What the code found is told at the place past each test; the laws of Pointing turn it into the act.
 -- Assumes nothing.
 use Rattle.pass1.proofs.Pointing.{refused_is, opens_free, opens_again, opens_down, to_fits}
@@ -6,7 +7,7 @@ use Rattle.reached.proofs.Laws.{marked_low}
 use Rattle.std.proofs.Common.{sym, ◌∙◌, arith}
 use Rattle.pass1.proofs.follow_table.Goals as goal
 
--- ---- the needs
+-- ---- the goals
 pub returns-then-old-next : goal.returns-then-old-next
 returns-then-old-next c =
     opens_free c.requires.points.0 c.requires.points.1 c.if-old-next.true

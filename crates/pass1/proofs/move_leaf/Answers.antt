@@ -1,4 +1,5 @@
--- `pass1::move_leaf` meets its contract: two tests that refuse, and then what the store answers to the leaf with its new address. No loop.
+-- `pass1::move_leaf` meets its contract: two tests that refuse, and then what the store answers to the leaf with its new address.
+-- No loop.
 -- Past both tests `away` gathers what they and the calls gave; the laws of Moving turn it, with the store's answer, into the act.
 -- Assumes nothing.
 use Rattle.pass1.proofs.Moving.{Away, moves_odd, moves_past, moves_in, moves_clash, moves_full}
@@ -56,7 +57,8 @@ overflow_sub-size c = let h = some _ _ _ _ _ _ c.requires in omega (arith, h)
 
 pub returns-then-offset-size-ne0 : goal.returns-then-offset-size-ne0
 returns-then-offset-size-ne0 c =
-    moves_odd c.requires.held (λ h. c.if-offset-size-ne0.true (remainder _ _ _ _ _ _ c.requires c.args.offset ∙ h)) c.with_offset.ensures
+    moves_odd c.requires.held (λ h. c.if-offset-size-ne0.true (remainder _ _ _ _ _ _ c.requires c.args.offset ∙ h))
+    c.with_offset.ensures
 
 pub overflow_sub-geometry : goal.overflow_sub-geometry
 overflow_sub-geometry c = below _ _ _ _ _ _ c.requires

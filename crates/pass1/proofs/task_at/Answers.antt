@@ -7,7 +7,7 @@ use Rattle.definitions.specs.Geometry.{span}
 use Rattle.std.proofs.Common.{◌≡◌, true, false, sym, ◌∙◌}
 use Rattle.pass1.proofs.task_at.Goals as goal
 
--- ---- the needs
+-- ---- the goals
 pub returns-then-not-is_present : goal.returns-then-not-is_present
 returns-then-not-is_present c =
     let a = c.args in
@@ -24,7 +24,8 @@ lookup-said-requires c = looks_fit c.args.ranges.now c.args.plan c.args.spot c.r
 pub returns-in-Stay : goal.returns-in-Stay
 returns-in-Stay c =
     let here : present c.args.spot.entry ≡ true = sym c.is_present.ensures ∙ c.if-not-is_present.false in
-    let points : let x = c.args.spot in pointer x.level x.entry ≡ false = sym c.points_to_table.ensures ∙ c.if-points_to_table.false in
+    let points : let x =
+    c.args.spot in pointer x.level x.entry ≡ false = sym c.points_to_table.ensures ∙ c.if-points_to_table.false in
     let sized : let x = c.args.spot in x.size ≡ span x.level = c.requires.size in
     let a = c.args in
     told_stay a.plan a.ranges.now a.spot here points sized _ c.lookup-said.ensures c.in-Stay.is
@@ -32,7 +33,8 @@ returns-in-Stay c =
 pub returns-in-By : goal.returns-in-By
 returns-in-By c =
     let here : present c.args.spot.entry ≡ true = sym c.is_present.ensures ∙ c.if-not-is_present.false in
-    let points : let x = c.args.spot in pointer x.level x.entry ≡ false = sym c.points_to_table.ensures ∙ c.if-points_to_table.false in
+    let points : let x =
+    c.args.spot in pointer x.level x.entry ≡ false = sym c.points_to_table.ensures ∙ c.if-points_to_table.false in
     let sized : let x = c.args.spot in x.size ≡ span x.level = c.requires.size in
     let a = c.args in
     told_by a.plan a.ranges.now a.spot here points sized _ c.lookup-said.ensures _ c.in-By.is

@@ -1,10 +1,9 @@
 -- `pass2::insert_all` meets its contract. One loop over the leaves, `i` from 0 to `count`.
-use Prim.Native.Nat.{◌-◌}
 use native.Mathlib.Omega.{arith}
 use Rattle.pass2.proofs.All.{begin, ready, over, stopped, again}
 use Rattle.pass2.proofs.insert_all.Goals as goal
 
--- ---- the needs
+-- ---- the goals
 pub loop-i-init : goal.loop-i-init
 loop-i-init c = (omega arith, begin c.requires.next)
 

@@ -3,7 +3,7 @@ use native.Mathlib.Omega.{arith}
 use Rattle.pass2.proofs.Down.{small, begin, inside, fits, over, stopped, again}
 use Rattle.pass2.proofs.insert_path.Goals as goal
 
--- ---- the needs
+-- ---- the goals
 pub word_at-word-requires : goal.word_at-word-requires
 word_at-word-requires c = let w = c.requires in (omega arith, small w.0, w.1)
 

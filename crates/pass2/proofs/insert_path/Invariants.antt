@@ -9,7 +9,9 @@ use Rattle.pass2.proofs.Down.{Rest, OnWay}
 use Rattle.pass2.proofs.insert_path.Given as goal
 
 abbrev pub invariant-loop-level : goal.invariant-loop-level
-invariant-loop-level l = Rest l.geometry l.new l.root l.leaf l.initial.s l.initial.out l.out l.level l.table l.s × OnWay l.leaf.address l.level l.table l.word × (l.level < levels)
+invariant-loop-level l =
+    Rest l.geometry l.new l.root l.leaf l.initial.s l.initial.out l.out l.level l.table l.s
+    × OnWay l.leaf.address l.level l.table l.word × (l.level < levels)
 
 abbrev pub decreases-loop-level : goal.decreases-loop-level
 decreases-loop-level l = l.level

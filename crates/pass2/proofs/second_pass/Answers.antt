@@ -6,7 +6,7 @@ use Rattle.pass2.proofs.All.{loaded, filled}
 use borrow.Author.Rules.{rules}
 use Rattle.pass2.proofs.second_pass.Goals as goal
 
--- ---- the needs
+-- ---- the goals
 pub close-count-requires : goal.close-count-requires
 close-count-requires c = search rules
 

@@ -9,7 +9,7 @@ use Rattle.levels.proofs.ByLevel.{indexed_at}
 use borrow.Author.Rules.{rules}
 use Rattle.pass2.proofs.word_at.Goals as goal
 
--- ---- the needs
+-- ---- the goals
 pub overflow_add-result : goal.overflow_add-result
 overflow_add-result c =
     let read : let a = c.args in get_or a.path a.level 0 ≡ index a.level a.address = indexed_at _ _ _ c.requires.2 c.requires.0 in

@@ -1,9 +1,10 @@
--- `list_valid` meets its contract. One loop, over the words in threes: i goes to the next range, lo to one above the last address of this one.
+-- `list_valid` meets its contract. One loop, over the words in threes: i goes to the next range, lo to one above the last address
+-- of this one.
 use Rattle.ranges.proofs.Check.{bad_thirds, bad_many, begin, over, stop, bound, again}
 use Rattle.std.proofs.Common.{ap, not, arith}
 use Rattle.ranges.proofs.list_valid.Goals as goal
 
--- ---- the needs
+-- ---- the goals
 pub returns-then-n-ne0 : goal.returns-then-n-ne0
 returns-then-n-ne0 c = bad_thirds _ _ _ c.if-n-ne0.true
 

@@ -1,4 +1,5 @@
--- `list_valid` meets its contract. One loop, over the words in threes: i goes to the next range, lo to one above the last address of this one.
+-- `list_valid` meets its contract. One loop, over the words in threes: i goes to the next range, lo to one above the last address
+-- of this one.
 -- Invariant: `Checking`, the words from i on, above lo, decide whether the whole list keeps the rules. Measure: the words left.
 -- Assumes nothing.
 use Rattle.ranges.proofs.Check.{Checking}

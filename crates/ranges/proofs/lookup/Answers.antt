@@ -1,9 +1,8 @@
 -- `lookup` meets its contract. One loop, over the words in threes, up to the first range that does not end before the leaf.
 use Rattle.ranges.proofs.Scan.{begin, over, past, again, hit}
-use Prim.Native.Nat.{◌-◌}
 use Rattle.ranges.proofs.lookup.Goals as goal
 
--- ---- the needs
+-- ---- the goals
 pub loop-i-init : goal.loop-i-init
 loop-i-init c = begin c.requires c.region_joins-joined.ensures
 

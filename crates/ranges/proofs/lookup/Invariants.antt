@@ -1,5 +1,6 @@
 -- `lookup` meets its contract. One loop, over the words in threes, up to the first range that does not end before the leaf.
--- Invariant: `Scanning`, the words from i on keep the rules, and with the region decide what the whole list says. Measure: the words left.
+-- Invariant: `Scanning`, the words from i on keep the rules, and with the region decide what the whole list says. Measure: the
+-- words left.
 -- Assumes nothing.
 use Rattle.ranges.proofs.Scan.{Scanning}
 use Prim.Native.Nat.{◌-◌}

@@ -1,4 +1,5 @@
--- `magnitude` meets its contract: one test, as in the definition; from 2^63 on, 2^64 less the offset, with no sum that wraps. No loop.
+-- `magnitude` meets its contract: one test, as in the definition; from 2^63 on, 2^64 less the offset, with no sum that wraps. No
+-- loop.
 -- Assumes nothing.
 use Rattle.definitions.specs.Ranges.{magnitude}
 use borrow.Author.Tests.{lt-ltb, le-ltb}

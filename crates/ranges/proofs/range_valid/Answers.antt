@@ -1,4 +1,5 @@
--- `range_valid` meets its contract: three tests in `range_ok`'s order, each of which returns false where it fails, then `shares`. No loop.
+-- `range_valid` meets its contract: three tests in `range_ok`'s order, each of which returns false where it fails, then `shares`.
+-- No loop.
 -- A test that fails makes `range_ok` false whatever the others are; past the last, all hold, and the rest is what `shares` says.
 -- Assumes nothing.
 use Rattle.definitions.specs.Ranges.{range_ok}
@@ -21,4 +22,6 @@ returns-then-geometry-last c = rw (le-ltb _ _ c.if-geometry-last.true, and-false
 
 pub returns : goal.returns
 unfolding range_ok
-returns c = rw (le-leb _ _ c.if-first-lo.false, le-leb _ _ c.if-last-first.false, lt-ltb _ _ c.if-geometry-last.false) (ap not c.shares.ensures)
+returns c =
+    rw (le-leb _ _ c.if-first-lo.false, le-leb _ _ c.if-last-first.false, lt-ltb _ _ c.if-geometry-last.false)
+    (ap not c.shares.ensures)

@@ -1,4 +1,5 @@
--- `region::calculate_page_table_index` meets its contract: an address below the region, or past its end by the distance from the base,
+-- `region::calculate_page_table_index` meets its contract: an address below the region, or past its end by the distance from the
+-- base,
 -- is in no table; else the distance gives the number. No loop.
 -- Assumes nothing.
 use Rattle.definitions.specs.Ranges.{within, table_at, table_in}

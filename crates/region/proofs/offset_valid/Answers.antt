@@ -1,4 +1,5 @@
--- `region::offset_valid` meets its contract: three tests in a row, in `offset_ok`'s order; the last two are of the moved end, two so
+-- `region::offset_valid` meets its contract: three tests in a row, in `offset_ok`'s order; the last two are of the moved end, two
+-- so
 -- that nothing is asked of the bound. No loop. Every place is seen from the sum that moves the base.
 -- Assumes nothing.
 use Rattle.definitions.specs.Ranges.{offset_ok, shifted}

@@ -1,5 +1,7 @@
--- `region::valid` meets its contract: eight tests in a row, in `region_ok`'s order, each of which returns false where it fails. No loop.
--- A test that fails makes `region_ok` false whatever the others are; past the last, all hold, each told at the place past it. The last two are
+-- `region::valid` meets its contract: eight tests in a row, in `region_ok`'s order, each of which returns false where it fails. No
+-- loop.
+-- A test that fails makes `region_ok` false whatever the others are; past the last, all hold, each told at the place past it. The
+-- last two are
 -- of the end: two, so that nothing is asked of the bound.
 -- Assumes nothing.
 use Rattle.definitions.specs.Ranges.{region_ok}
@@ -38,7 +40,7 @@ unfolding region_ok
 returns-then-geometry-r c =
     let limit : ℕ = c.args.geometry.limit in
     let r : Region = c.args.r in
-    let h : limit < (r).gpa + (r).size = omega arith in
+    let h : limit < r.gpa + r.size = omega arith in
     rw (lt-leb _ _ h, and-false)
 
 pub returns-then-geometry-r-2 : goal.returns-then-geometry-r-2
@@ -46,7 +48,7 @@ unfolding region_ok
 returns-then-geometry-r-2 c =
     let limit : ℕ = c.args.geometry.limit in
     let r : Region = c.args.r in
-    let h : limit < (r).gpa + (r).size = omega arith in
+    let h : limit < r.gpa + r.size = omega arith in
     rw (lt-leb _ _ h, and-false)
 
 pub returns : goal.returns
@@ -54,7 +56,7 @@ unfolding region_ok
 returns c =
     let r : Region = c.args.r in
     let limit : ℕ = c.args.geometry.limit in
-    let h : (r).gpa + (r).size ≤ limit = omega arith in
+    let h : r.gpa + r.size ≤ limit = omega arith in
     rw (
       eq-eqb _ _ c.if-r-ne0.false,
       eq-eqb _ _ c.if-r-ne0-2.false,

@@ -1,6 +1,5 @@
 -- `tables::blank` looks at each byte in turn and stops at the first that is not 0.
 use mathlib.Core.Path.{sym, ◌∙◌}
-use Prim.Native.Nat.{◌-◌}
 use borrow.Author.Rules.{rules}
 use Rattle.tables.proofs.Zeros.{more, stops, ends}
 use Rattle.tables.proofs.blank.Goals as goal

@@ -11,20 +11,20 @@ returns-then-s-eq0 c = sym (empty _ c.if-s-eq0.true)
 pub slice_bounds-digits-count : goal.slice_bounds-digits-count
 slice_bounds-digits-count c =
     let text : List ℕ = c.args.s.now in
-    let has_prefix : prefixed_of (text) ≡ true = sym c.prefixed.ensures ∙ c.if-prefixed.true in
-    omega (arith, prefixed_long (text) (has_prefix))
+    let has_prefix : prefixed_of text ≡ true = sym c.prefixed.ensures ∙ c.if-prefixed.true in
+    omega (arith, prefixed_long text has_prefix)
 
 pub slice_bounds-digits-start : goal.slice_bounds-digits-start
 slice_bounds-digits-start c =
     let text : List ℕ = c.args.s.now in
-    let has_prefix : prefixed_of (text) ≡ true = sym c.prefixed.ensures ∙ c.if-prefixed.true in
-    omega (arith, prefixed_long (text) (has_prefix))
+    let has_prefix : prefixed_of text ≡ true = sym c.prefixed.ensures ∙ c.if-prefixed.true in
+    omega (arith, prefixed_long text has_prefix)
 
 pub returns-then-prefixed : goal.returns-then-prefixed
 returns-then-prefixed c =
     let text : List ℕ = c.args.s.now in
-    let has_prefix : prefixed_of (text) ≡ true = sym c.prefixed.ensures ∙ c.if-prefixed.true in
-    c.digits.ensures ∙ ap digits_of (rest (text) 2) ∙ sym (after_prefix (text) c.if-s-eq0.false (has_prefix))
+    let has_prefix : prefixed_of text ≡ true = sym c.prefixed.ensures ∙ c.if-prefixed.true in
+    c.digits.ensures ∙ ap digits_of (rest text 2) ∙ sym (after_prefix text c.if-s-eq0.false has_prefix)
 
 pub returns : goal.returns
 returns c = c.digits-2.ensures ∙ sym (plain _ c.if-s-eq0.false (sym c.prefixed.ensures ∙ c.if-prefixed.false))

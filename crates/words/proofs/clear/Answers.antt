@@ -1,7 +1,6 @@
 -- `words::clear` meets its contract. One loop. Invariant: `Clearing`, zeros from place `from` up to place i, the rest as it was.
 use Rattle.definitions.proofs.Clearing.{clearing_begins, clearing_more, clearing_ends}
 use lib.ListN.{length-set}
-use Prim.Native.Nat.{◌-◌}
 use native.Mathlib.Omega.{arith}
 use borrow.Author.Rules.{rules}
 use Rattle.words.proofs.clear.Goals as goal

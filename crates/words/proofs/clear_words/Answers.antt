@@ -1,7 +1,7 @@
--- `words::clear_words` meets its contract. One loop. Invariant: `Clearing`, zeros from word `from` up to word k, the rest as it was.
+-- `words::clear_words` meets its contract. One loop. Invariant: `Clearing`, zeros from word `from` up to word k, the rest as it
+-- was.
 use Rattle.definitions.proofs.Clearing.{clearing_begins, clearing_more, clearing_ends}
 use lib.ListN.{length-set}
-use Prim.Native.Nat.{◌-◌}
 use native.Mathlib.Omega.{arith}
 use borrow.Author.Rules.{rules}
 use Rattle.words.proofs.clear_words.Goals as goal

@@ -1,4 +1,5 @@
--- `words::clear_words` meets its contract. One loop. Invariant: `Clearing`, zeros from word `from` up to word k, the rest as it was.
+-- `words::clear_words` meets its contract. One loop. Invariant: `Clearing`, zeros from word `from` up to word k, the rest as it
+-- was.
 -- Measure: what is left of the length. The three laws of `Clearing` are the loop's begin, turn and end.
 -- Assumes nothing.
 use Rattle.definitions.proofs.Clearing.{Clearing}

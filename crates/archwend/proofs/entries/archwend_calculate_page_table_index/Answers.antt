@@ -1,4 +1,5 @@
--- `archwend_calculate_page_table_index` meets its contract: it is `region::calculate_page_table_index`, and each case is told as 1 or 0. No loop.
+-- `archwend_calculate_page_table_index` meets its contract: it is `region::calculate_page_table_index`, and each case is told as 1
+-- or 0. No loop.
 -- Assumes nothing.
 use mathlib.Core.Path.{sym, ap, ◌∙◌}
 use Rattle.region.specs.Meaning.{index_of}

@@ -1,4 +1,5 @@
--- `fresh` meets its contract: one case for each kind, which is `PageTableEntry::set_entry` of that kind, and the rest, which is none.
+-- `fresh` meets its contract: one case for each kind, which is `PageTableEntry::set_entry` of that kind, and the rest, which is
+-- none.
 -- No loop.
 -- Assumes nothing.
 use Rattle.archwend.specs.Entries.{fresh_of}

@@ -1,4 +1,5 @@
--- `PageTableEntry::leaf_gpa` meets its contract: the tests of the level and of the present bit are the cases of `read_leaf_address`. No loop.
+-- `PageTableEntry::leaf_gpa` meets its contract: the tests of the level and of the present bit are the cases of
+-- `read_leaf_address`. No loop.
 -- Assumes nothing.
 use Rattle.definitions.specs.Entry.{Reading, read_field, read_leaf_address}
 use Rattle.definitions.proofs.Entry.{field_mask}
@@ -23,7 +24,7 @@ unfolding read_leaf_address read_field
 returns-then-is_present c =
     let level : leb c.args.level 2 ≡ true = sym c.has_leaves.ensures ∙ c.if-not-has_leaves.false in
     let a = c.args in
-    let mask = leaf_mask a.level _ (leaf_level a.level (level)) c.leaf_field.ensures in
+    let mask = leaf_mask a.level _ (leaf_level a.level level) c.leaf_field.ensures in
     rw (level, sym c.is_present.ensures ∙ c.if-is_present.true) (ap (λ (n : ℕ). read (some n)) (field_mask mask a.self.entry))
 
 pub returns-else-is_present : goal.returns-else-is_present

@@ -1,4 +1,5 @@
--- `PageTableEntry::set_leaf_addr` meets its contract: a level that no leaf has, and an address with a bit outside the level's field, are
+-- `PageTableEntry::set_leaf_addr` meets its contract: a level that no leaf has, and an address with a bit outside the level's
+-- field, are
 -- refused, any other is set. No loop.
 -- Assumes nothing.
 use Rattle.definitions.proofs.Answers.{answer_good, answer_refused}
@@ -31,7 +32,9 @@ unfolding set_leaf_address
 returns c =
     let low : c.args.level < 3 = leaf_level c.args.level (sym c.has_leaves.ensures ∙ c.if-not-has_leaves.false) in
     let mask : FieldMask (span c.args.level) c.leaf_field-field.result = leaf_mask c.args.level _ low c.leaf_field-field.ensures in
-    let inside : let a = c.args in (a.addr % span a.level ≡ 0) × (a.addr < 2 ^ 52) = fits_mask mask c.args.addr c.ranges.addr.fits c.if-addr-field-ne0.false in
+    let inside : let a =
+    c.args in (a.addr % span a.level ≡ 0)
+    × (a.addr < 2 ^ 52) = fits_mask mask c.args.addr c.ranges.addr.fits c.if-addr-field-ne0.false in
     let a = c.args in
     let i = inside in
     let fits = leaf_fits a.level a.addr low ∙ fits_yes (span a.level) a.addr i.0 i.1 in

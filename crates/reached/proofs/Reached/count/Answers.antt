@@ -1,7 +1,6 @@
 -- `Reached::count` meets its contract. One loop over the words.
 use borrow.Author.Rules.{rules}
 use mathlib.Core.Path.{◌≡◌, refl}
-use Prim.Native.Nat.{◌-◌}
 use native.Mathlib.Omega.{arith}
 use mir.Syntax.{w64}
 use Rattle.definitions.specs.Words.{count}
