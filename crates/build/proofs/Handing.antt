@@ -13,7 +13,7 @@ use Rattle.definitions.specs.Inputs as I
 use Rattle.definitions.specs.Ranges.{region_ok, used_tables, shifted, moved_region, offset_ok, list_ok, ranges_of, ranges_ok, deciding}
 use Rattle.definitions.specs.Step.{go}
 use Rattle.definitions.specs.Pass1.{walk_table}
-use Rattle.definitions.specs.Build.{geometry, height, plan_of, root, first_pass, second_pass, accepted, build}
+use Rattle.definitions.specs.Build.{geometry, height, plan_of, first_pass, second_pass, accepted}
 use Rattle.definitions.proofs.Geometry.{SoundGeometry}
 use Rattle.definitions.proofs.Ranges.{SoundRegion, region_sound, offset_sound}
 use Rattle.definitions.proofs.Step.{After}

@@ -38,8 +38,8 @@ module _ (j : I.Job) (g : Geometry) (e : g ≡ geometry_of j.cr4) where
   offset_is h = ap (λ (l : ℕ). offset_ok l j.region j.table_offset) limit_is ∙ sym h
 
   ranges_is : {b : Bool}
-      → b ≡ (list_ok j.words && ranges_ok g.limit j.region 0 (ranges_of j.words)) →
-  (list_ok j.words && each_ok j) ≡ b
+      → b ≡ (list_ok j.words && ranges_ok g.limit j.region 0 (ranges_of j.words))
+      → (list_ok j.words && each_ok j) ≡ b
   ranges_is h = ap (λ (l : ℕ). list_ok j.words && ranges_ok l j.region 0 (ranges_of j.words)) limit_is ∙ sym h
 
 -- ---- the goals
