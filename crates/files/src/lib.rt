@@ -3,7 +3,7 @@
 #![tactic(auto)]
 
 ghost use Rattle.std.specs.Prelude.{◌≡◌, ◌≤◌, length, take};
-ghost use Rattle.files.specs.Meaning.{bytes_read};
+ghost use Rattle.files.specs.Meaning.{bytes_read, Fills};
 
 use std::env::FillError;
 use std::fmt::InlineText;
@@ -121,8 +121,9 @@ pub fn open<R: Env + Files + Eprint>(rt: &R, at: usize, what: &str) -> Option<R:
 }
 
 // Reads until the buffer is full or the file ends; a read that fails is said on standard error.
-pub fn fill(rt: &impl Eprint, file: &mut impl Read, what: &str, buf: &mut [u8]) -> Filled
-    ensures { bytes_read result ≤ length buf.old }
+pub fn fill<F: Read>(rt: &impl Eprint, file: &mut F, what: &str, buf: &mut [u8]) -> Filled
+    ensures within { bytes_read result ≤ length buf.old }
+    ensures bytes { Fills (F.remaining file.old) (F.remaining file.new) buf.new result }
 {
     let mut n: usize = 0;
     while n < buf.len() {
