@@ -16,9 +16,9 @@ sed -n '/^enum archwend_number/,/^}/p' include/archwend.h |
 sed -n '/^refusals! {/,/^}/s/^ \+//p' loader/src/refusals.rs |
     sed 's/^\([A-Z0-9_]*\) = \([0-9]*\), "\(.*\)";$/\2 \1: \3/' >"$room/loader"
 # sentences takes its numbers from the definitions, by name.
-tr -s '\n ' '  ' <crates/sentences/src/lib.rt | grep -o '[^ ]* => io::write_all( *fd, *b"[^"]*"' |
-    grep -v -e '^0 => .* b"accepted"$' -e '^_ => .* b"unknown"$' |
-    sed 's/^refusals::\(.*\) => io::write_all( *fd, *b"\(.*\)"/\1: \2/' |
+tr -s '\n ' '  ' <crates/sentences/src/lib.rt | grep -o '[^ ]* => out\.print( *"[^"]*"' |
+    grep -v -e '^0 => .*"accepted"$' -e '^_ => .*"unknown"$' |
+    sed 's/^refusals::\(.*\) => out\.print( *"\(.*\)"/\1: \2/' |
     while IFS= read -r line; do
         sed -n "s/^\([0-9]* \)${line%%:*}$/\1/p" "$room/definitions" | tr -d '\n'
         printf '%s\n' "$line"

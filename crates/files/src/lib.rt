@@ -3,9 +3,14 @@
 #![tactic(auto)]
 
 ghost use Rattle.std.specs.Prelude.{◌≡◌, ◌≤◌, length, take};
-ghost use Rattle.files.specs.Meaning.{bytes_read};
+ghost use Rattle.files.specs.Meaning.{bytes_read, Fills};
 
-use libc::STDERR_FILENO;
+use std::env::FillError;
+use std::fmt::InlineText;
+use std::fs::File;
+use std::io::Read;
+use std::rt::{Env, Files};
+use std::{fs, io, str};
 
 // What the programs lend to a build. An image or a list of ranges that fills its buffer is too long for any build, and what is
 // cut off does not change the answer: it is 1 for 512 tables and a byte, and 8 for 1,025 ranges.
@@ -19,6 +24,12 @@ pub const OUTPUT_BYTES: usize = 2097152;
 // 131,072 moved leaves of three words.
 pub const SCRATCH_WORDS: usize = 393216;
 
+// Room for any name of a file.
+const NAME_BYTES: usize = 4096;
+
+// Room for any error in words.
+const WORDS_BYTES: usize = 256;
+
 // How reading into a buffer went: so many bytes are at its start, or a read failed.
 #[derive(Clone, Copy)]
 pub enum Filled {
@@ -26,12 +37,29 @@ pub enum Filled {
     Failed,
 }
 
-// One line on standard error.
-pub fn complain(what: &[u8], why: &[u8]) {
-    io::write_all(STDERR_FILENO, what);
-    io::write_all(STDERR_FILENO, b": ");
-    io::write_all(STDERR_FILENO, why);
-    io::write_all(STDERR_FILENO, b"\n");
+// How many arguments the program was started with, its own name among them.
+pub fn arg_count(rt: &impl Env) -> usize {
+    for i in 0..usize::MAX {
+        if let Err(FillError::NotPresent) = rt.arg(i, &mut []) {
+            return i;
+        }
+    }
+    usize::MAX
+}
+
+// One line on standard error. Where that can't be written there is nothing left to say it on.
+pub fn complain(rt: &impl Eprint, what: &str, why: &str) {
+    let _ = eprintln!(rt; "{what}: {why}");
+}
+
+// What failed, and why in the system's words, without the number that an error of the system's has after them.
+pub fn fail(rt: &impl Eprint, what: &str, error: io::Error) {
+    let text = InlineText::<WORDS_BYTES>::of(error);
+    let words = text.as_str();
+    match words.split_once(" (os error ") {
+        Some((why, _)) => complain(rt, what, why),
+        None => complain(rt, what, words),
+    }
 }
 
 // The first n bytes, or all where there are fewer.
@@ -52,32 +80,60 @@ pub fn front_words(words: &[u64], n: usize) -> &[u64]
     }
 }
 
-// Opens the file that argument `at` names, for reading: a descriptor, or -1 after a line on standard error.
-pub fn open(at: usize, what: &[u8]) -> i32 {
-    let mut path = io::buffer();
-    let n = os::arg(at, &mut path);
-    if os::errno() != 0 {
-        os::fail(what);
-        return -1;
+// The name that argument `at` is; where it can be none, that is said on standard error.
+fn name<'a>(
+    rt: &(impl Env + Eprint),
+    at: usize,
+    what: &str,
+    room: &'a mut [u8; NAME_BYTES],
+) -> Option<&'a str> {
+    let n = match rt.arg(at, room) {
+        Ok(n) => n,
+        Err(FillError::NotPresent) => {
+            complain(rt, what, "Invalid argument");
+            return None;
+        }
+        Err(FillError::TooLong) => {
+            complain(rt, what, "File name too long");
+            return None;
+        }
+    };
+    match str::from_utf8(&room[..n]) {
+        Ok(path) => Some(path),
+        Err(_) => {
+            complain(rt, what, "a name that is not UTF-8");
+            None
+        }
     }
-    let fd = os::open_read(&path[..n]);
-    if fd < 0 {
-        os::fail(what);
-    }
-    fd
 }
 
-// Reads until the buffer is full or the file ends.
-pub fn fill(fd: i32, buf: &mut [u8]) -> Filled
-    ensures { bytes_read result ≤ length buf.old }
+// Opens the file that argument `at` names, for reading: the file, or none after a line on standard error.
+pub fn open<R: Env + Files + Eprint>(rt: &R, at: usize, what: &str) -> Option<R::File> {
+    let mut room = [0u8; NAME_BYTES];
+    let path = name(rt, at, what, &mut room)?;
+    match File::open(rt, path) {
+        Ok(file) => Some(file),
+        Err(error) => {
+            fail(rt, what, error);
+            None
+        }
+    }
+}
+
+// Reads until the buffer is full or the file ends; a read that fails is said on standard error.
+pub fn fill<F: Read>(rt: &impl Eprint, file: &mut F, what: &str, buf: &mut [u8]) -> Filled
+    ensures within { bytes_read result ≤ length buf.old }
+    ensures bytes { Fills (F.remaining file.old) (F.remaining file.new) buf.new result }
 {
     let mut n: usize = 0;
     while n < buf.len() {
-        let got = libc::read(fd, &mut buf[n..]);
-        if got < 0 {
-            return Filled::Failed;
-        }
-        let more = io::count(got, &buf[n..]);
+        let more = match file.read(&mut buf[n..]) {
+            Ok(more) => more,
+            Err(error) => {
+                fail(rt, what, error);
+                return Filled::Failed;
+            }
+        };
         if more == 0 {
             return Filled::Bytes(n);
         }
@@ -87,36 +143,24 @@ pub fn fill(fd: i32, buf: &mut [u8]) -> Filled
 }
 
 // Reads the file that argument `at` names, as far as the buffer has room; what goes wrong is said on standard error.
-pub fn read(at: usize, what: &[u8], buf: &mut [u8]) -> Filled {
-    let fd = open(at, what);
-    if fd < 0 {
-        return Filled::Failed;
+pub fn read<R: Env + Files + Eprint>(rt: &R, at: usize, what: &str, buf: &mut [u8]) -> Filled {
+    match open(rt, at, what) {
+        None => Filled::Failed,
+        Some(mut file) => fill(rt, &mut file, what, buf),
     }
-    let filled = fill(fd, buf);
-    if let Filled::Failed = filled {
-        os::fail(what);
-    }
-    libc::close(fd);
-    filled
 }
 
 // Writes the bytes to the file that argument `at` names; what goes wrong is said on standard error.
-pub fn save(at: usize, what: &[u8], bytes: &[u8]) -> bool {
-    let mut path = io::buffer();
-    let n = os::arg(at, &mut path);
-    if os::errno() != 0 {
-        os::fail(what);
+pub fn save(rt: &(impl Env + Files + Eprint), at: usize, what: &str, bytes: &[u8]) -> bool {
+    let mut room = [0u8; NAME_BYTES];
+    let Some(path) = name(rt, at, what, &mut room) else {
         return false;
+    };
+    match fs::write(rt, path, bytes) {
+        Ok(()) => true,
+        Err(error) => {
+            fail(rt, what, error);
+            false
+        }
     }
-    let fd = os::open_overwrite(&path[..n]);
-    if fd < 0 {
-        os::fail(what);
-        return false;
-    }
-    let is_written = io::write_all(fd, bytes);
-    if !is_written {
-        os::fail(what);
-    }
-    libc::close(fd);
-    is_written
 }

@@ -6,12 +6,17 @@ ghost use Rattle.std.specs.Prelude.{◌≡◌, ◌*◌, ◌%◌};
 use build::CpuPagingState;
 use definitions::Region;
 use files::{Filled, IMAGE_BYTES, OUTPUT_BYTES, RANGE_WORDS, SCRATCH_WORDS};
+use std::alloc::AllocError;
+use std::rt::{Env, Files};
 use text::Number;
 
 // A record of RANGES is three words.
 const RECORD_BYTES: usize = 24;
 
 const RECORDS_BYTES: usize = RANGE_WORDS * 8;
+
+// A longer argument is no number.
+const NUMBER_BYTES: usize = 4096;
 
 // The numbers of the command line.
 #[derive(Clone, Copy)]
@@ -31,9 +36,9 @@ enum Given {
 }
 
 // Argument `at` as a number; one that is none is said on standard error.
-fn number(at: usize, what: &[u8]) -> Number {
-    let mut text = io::buffer();
-    let n = os::arg(at, &mut text);
+fn number(rt: &(impl Env + Eprint), at: usize, what: &str) -> Number {
+    let mut text = [0u8; NUMBER_BYTES];
+    let n = rt.arg(at, &mut text).unwrap_or(0);
     if text::marked(&text[..n]) {
         let read = text::parse_hex(&text[..n]);
         if let Number::Value(_) = read {
@@ -41,15 +46,16 @@ fn number(at: usize, what: &[u8]) -> Number {
         }
     }
     files::complain(
+        rt,
         what,
-        b"not a number in hexadecimal with 0x, of at most 64 bits",
+        "not a number in hexadecimal with 0x, of at most 64 bits",
     );
     Number::Bad
 }
 
-fn table_offset(at: usize, what: &[u8]) -> Number {
-    let mut text = io::buffer();
-    let n = os::arg(at, &mut text);
+fn table_offset(rt: &(impl Env + Eprint), at: usize, what: &str) -> Number {
+    let mut text = [0u8; NUMBER_BYTES];
+    let n = rt.arg(at, &mut text).unwrap_or(0);
     if text::marked(&text[..n]) {
         let read = text::parse_signed(&text[..n]);
         if let Number::Value(_) = read {
@@ -57,26 +63,27 @@ fn table_offset(at: usize, what: &[u8]) -> Number {
         }
     }
     files::complain(
+        rt,
         what,
-        b"not a number in hexadecimal with 0x, of at most 64 bits, or one after '-' of at most 2^63",
+        "not a number in hexadecimal with 0x, of at most 64 bits, or one after '-' of at most 2^63",
     );
     Number::Bad
 }
 
-fn numbers() -> Given {
-    let Number::Value(gpa) = number(4, b"relocate: GPA") else {
+fn numbers(rt: &(impl Env + Eprint)) -> Given {
+    let Number::Value(gpa) = number(rt, 4, "relocate: GPA") else {
         return Given::Refused;
     };
-    let Number::Value(size) = number(5, b"relocate: SIZE") else {
+    let Number::Value(size) = number(rt, 5, "relocate: SIZE") else {
         return Given::Refused;
     };
-    let Number::Value(cr3) = number(6, b"relocate: CR3") else {
+    let Number::Value(cr3) = number(rt, 6, "relocate: CR3") else {
         return Given::Refused;
     };
-    let Number::Value(cr4) = number(7, b"relocate: CR4") else {
+    let Number::Value(cr4) = number(rt, 7, "relocate: CR4") else {
         return Given::Refused;
     };
-    let Number::Value(offset) = table_offset(8, b"relocate: OFFSET") else {
+    let Number::Value(offset) = table_offset(rt, 8, "relocate: OFFSET") else {
         return Given::Refused;
     };
     let asked = Asked {
@@ -110,9 +117,9 @@ fn words_of(n: usize) -> usize
 }
 
 // The ranges of the second argument, and how many words they are.
-fn load_ranges(words: &mut [u64]) -> Filled {
+fn load_ranges(rt: &(impl Env + Files + Eprint), words: &mut [u64]) -> Filled {
     let mut records = [0u8; RECORDS_BYTES];
-    let Filled::Bytes(n) = files::read(2, b"relocate: RANGES", &mut records) else {
+    let Filled::Bytes(n) = files::read(rt, 2, "relocate: RANGES", &mut records) else {
         return Filled::Failed;
     };
     decode(files::front(&records, n), words);
@@ -120,7 +127,14 @@ fn load_ranges(words: &mut [u64]) -> Filled {
 }
 
 // The job, once its files are read.
-fn run(image: &[u8], out: &mut [u8], scratch: &mut [u64], ranges: &[u64], asked: Asked) {
+fn run(
+    rt: &(impl Env + Files + Print + Eprint),
+    image: &[u8],
+    out: &mut [u8],
+    scratch: &mut [u64],
+    ranges: &[u64],
+    asked: Asked,
+) {
     let r = Region {
         gpa: asked.gpa,
         size: asked.size,
@@ -131,21 +145,27 @@ fn run(image: &[u8], out: &mut [u8], scratch: &mut [u64], ranges: &[u64], asked:
         cr4: asked.cr4,
     };
     let report = build::build(image, out, scratch, ranges, r, cpu, asked.offset);
-    reports::finish(3, b"relocate: OUTPUT", out, report);
+    reports::finish(rt, 3, "relocate: OUTPUT", out, report);
 }
 
-fn relocate(image: &mut [u8], out: &mut [u8], scratch: &mut [u64]) {
-    let Given::All(asked) = numbers() else {
+fn relocate(
+    rt: &(impl Env + Files + Print + Eprint),
+    image: &mut [u8],
+    out: &mut [u8],
+    scratch: &mut [u64],
+) {
+    let Given::All(asked) = numbers(rt) else {
         return;
     };
-    let Filled::Bytes(used) = files::read(1, b"relocate: IMAGE", image) else {
+    let Filled::Bytes(used) = files::read(rt, 1, "relocate: IMAGE", image) else {
         return;
     };
     let mut words = [0u64; RANGE_WORDS];
-    let Filled::Bytes(count) = load_ranges(&mut words) else {
+    let Filled::Bytes(count) = load_ranges(rt, &mut words) else {
         return;
     };
     run(
+        rt,
         files::front(image, used),
         out,
         scratch,
@@ -154,25 +174,28 @@ fn relocate(image: &mut [u8], out: &mut [u8], scratch: &mut [u64]) {
     );
 }
 
-// The buffers as slices: their lengths are their types'.
+// The buffers as slices.
 fn lend(
-    image: &mut [u8; IMAGE_BYTES],
-    out: &mut [u8; OUTPUT_BYTES],
-    scratch: &mut [u64; SCRATCH_WORDS],
+    rt: &(impl Env + Files + Print + Eprint),
+    image: &mut Vec<u8>,
+    out: &mut Vec<u8>,
+    scratch: &mut Vec<u64>,
 ) {
-    relocate(image, out, scratch);
+    relocate(rt, image, out, scratch);
 }
 
-fn main() {
-    if os::arg_count() != 9 {
+fn main(rt: HostRuntime) -> Result<(), AllocError> {
+    if files::arg_count(&rt) != 9 {
         files::complain(
-            b"usage",
-            b"relocate IMAGE RANGES OUTPUT GPA SIZE CR3 CR4 OFFSET",
+            &rt,
+            "usage",
+            "relocate IMAGE RANGES OUTPUT GPA SIZE CR3 CR4 OFFSET",
         );
-        return;
+        return Ok(());
     }
-    let mut image = [0u8; IMAGE_BYTES];
-    let mut out = [0u8; OUTPUT_BYTES];
-    let mut scratch = [0u64; SCRATCH_WORDS];
-    lend(&mut image, &mut out, &mut scratch);
+    let mut image = vec![in rt.alloc(); 0u8; IMAGE_BYTES]?;
+    let mut out = vec![in rt.alloc(); 0u8; OUTPUT_BYTES]?;
+    let mut scratch = vec![in rt.alloc(); 0u64; SCRATCH_WORDS]?;
+    lend(&rt, &mut image, &mut out, &mut scratch);
+    Ok(())
 }

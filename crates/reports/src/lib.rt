@@ -3,112 +3,114 @@
 
 use definitions::{Place, Report, refusals};
 use levels::Answer;
-use libc::STDOUT_FILENO;
+use std::io;
+use std::rt::{Env, Files};
 
-fn put(text: &[u8]) -> bool {
-    io::write_all(STDOUT_FILENO, text)
+fn put(out: &impl Print, text: &str) -> io::Result<()> {
+    out.print(text)
 }
 
-fn put_hex(value: u64) -> bool {
-    put(b"0x");
-    io::print_hex(STDOUT_FILENO, value, 1)
+fn put_hex(out: &impl Print, value: u64) -> io::Result<()> {
+    print!(out; "{value:#x}")
 }
 
-fn decimal_line(name: &[u8], value: u64) -> bool {
-    put(name);
-    io::print_decimal(STDOUT_FILENO, value);
-    put(b"\n")
+fn decimal_line(out: &impl Print, name: &str, value: u64) -> io::Result<()> {
+    put(out, name)?;
+    print!(out; "{value}")?;
+    put(out, "\n")
 }
 
-fn hex_line(name: &[u8], value: u64) -> bool {
-    put(name);
-    put_hex(value);
-    put(b"\n")
+fn hex_line(out: &impl Print, name: &str, value: u64) -> io::Result<()> {
+    put(out, name)?;
+    put_hex(out, value)?;
+    put(out, "\n")
 }
 
 // An offset as the signed number that it stands for.
-fn offset_line(offset: u64) -> bool {
+fn offset_line(out: &impl Print, offset: u64) -> io::Result<()> {
     if offset < 0x8000_0000_0000_0000 {
-        return hex_line(b"offset ", offset);
+        return hex_line(out, "offset ", offset);
     }
-    put(b"offset -");
-    put_hex(std::num::wrapping_sub_u64(0, offset));
-    put(b"\n")
+    hex_line(out, "offset -", offset.wrapping_neg())
 }
 
 // The line of a number and its sentence.
-fn number_line(number: u64) -> bool {
-    put(b"number ");
-    io::print_decimal(STDOUT_FILENO, number);
-    put(b" ");
-    sentences::write(STDOUT_FILENO, number);
-    put(b"\n")
+fn number_line(out: &impl Print, number: u64) -> io::Result<()> {
+    print!(out; "number {number} ")?;
+    sentences::write(out, number)?;
+    put(out, "\n")
 }
 
 // The line of a load that is refused.
-pub fn print_load(gpa: u64, number: u64) -> bool {
-    put(b"load ");
-    put_hex(gpa);
-    put(b" ");
-    number_line(number)
+pub fn print_load(out: &impl Print, gpa: u64, number: u64) -> io::Result<()> {
+    put(out, "load ")?;
+    put_hex(out, gpa)?;
+    put(out, " ")?;
+    number_line(out, number)
 }
 
 // What one entry of the level maps; the root of five levels stands above all entries.
-fn size_line(level: u64) -> bool {
+fn size_line(out: &impl Print, level: u64) -> io::Result<()> {
     let size = levels::mapping_size(level);
     let Answer::Good(bytes) = size else {
-        return true;
+        return Ok(());
     };
-    hex_line(b"size ", bytes)
+    hex_line(out, "size ", bytes)
 }
 
 // Where an entry stands that a refusal names, or a moved leaf that found no way.
-fn place_lines(name: &[u8], place: Place) -> bool {
-    hex_line(name, place.address);
-    decimal_line(b"level ", place.level);
-    size_line(place.level)
+fn place_lines(out: &impl Print, name: &str, place: Place) -> io::Result<()> {
+    hex_line(out, name, place.address)?;
+    decimal_line(out, "level ", place.level)?;
+    size_line(out, place.level)
 }
 
 // A refusal's place, as far as its number has one.
-fn print_place(number: u64, place: Place) -> bool {
+fn print_place(out: &impl Print, number: u64, place: Place) -> io::Result<()> {
     match number {
         refusals::UNALIGNED_OFFSET | refusals::OUT_OF_BOUNDS => {
-            place_lines(b"old address ", place);
-            offset_line(place.offset)
+            place_lines(out, "old address ", place)?;
+            offset_line(out, place.offset)
         }
         refusals::FREE_TAIL
         | refusals::SHARED_TABLE
         | refusals::INTO_MOVED
         | refusals::SAME_ADDRESS
-        | refusals::NO_ROOM => place_lines(b"old address ", place),
+        | refusals::NO_ROOM => place_lines(out, "old address ", place),
         refusals::LARGE_IN_THE_WAY
         | refusals::WAY_OUTSIDE
         | refusals::OCCUPIED
-        | refusals::NO_FREE_TABLE => place_lines(b"new address ", place),
-        _ => true,
+        | refusals::NO_FREE_TABLE => place_lines(out, "new address ", place),
+        _ => Ok(()),
     }
 }
 
-fn print(report: Report) -> bool {
-    number_line(report.number);
+fn print(out: &impl Print, report: Report) -> io::Result<()> {
+    number_line(out, report.number)?;
     if report.number != 0 {
         let place = report.place;
-        return print_place(report.number, place);
+        return print_place(out, report.number, place);
     }
-    hex_line(b"used ", report.used);
-    decimal_line(b"moved ", report.moved);
-    decimal_line(b"merged ", report.merged);
-    decimal_line(b"reached ", report.reached)
+    hex_line(out, "used ", report.used)?;
+    decimal_line(out, "moved ", report.moved)?;
+    decimal_line(out, "merged ", report.merged)?;
+    decimal_line(out, "reached ", report.reached)
 }
 
 // The end of a build: its tables go to the file that argument `at` names, and are there when the report says so.
-pub fn finish(at: usize, what: &[u8], out: &[u8], report: Report) {
+pub fn finish(
+    rt: &(impl Env + Files + Print + Eprint),
+    at: usize,
+    what: &str,
+    out: &[u8],
+    report: Report,
+) {
     if report.number == 0 {
-        if !files::save(at, what, files::front(out, report.used as usize)) {
+        if !files::save(rt, at, what, files::front(out, report.used as usize)) {
             return;
         }
     }
-    if !print(report) {
-        os::fail(b"archwend: the report");
+    if let Err(error) = print(rt, report) {
+        files::fail(rt, "archwend: the report", error);
     }
 }

@@ -12,37 +12,33 @@ use definitions::Region;
 use definitions::paging::Geometry;
 use files::{Filled, IMAGE_BYTES, OUTPUT_BYTES, RANGE_WORDS, SCRATCH_WORDS};
 use job::{Job, Outcome};
-use libc::STDERR_FILENO;
 use line::Fault;
 use load::{LoadLine, PAGE_BYTES};
+use std::alloc::AllocError;
+use std::io;
+use std::rt::{Env, Files};
 
 const TEXT_MAX: usize = 262144;
 
 // One byte more shows a text that is too long.
 const TEXT_BYTES: usize = TEXT_MAX + 1;
 
-fn sentence(fault: Fault) -> bool {
+fn sentence(fault: Fault) -> &'static str {
     match fault {
-        Fault::Line => io::write_all(
-            STDERR_FILENO,
-            b"region, image, load, range, ranges, no scratch or build expected\n",
-        ),
-        Fault::First => io::write_all(STDERR_FILENO, b"a region expected first\n"),
-        Fault::Again => io::write_all(STDERR_FILENO, b"a second region\n"),
-        Fault::Number => io::write_all(STDERR_FILENO, b"a number in hexadecimal expected\n"),
-        Fault::Offset => io::write_all(STDERR_FILENO, b"an offset in hexadecimal expected\n"),
-        Fault::More => io::write_all(STDERR_FILENO, b"too many words\n"),
-        Fault::Pair => io::write_all(STDERR_FILENO, b"index:word in hexadecimal expected\n"),
-        Fault::Past => io::write_all(STDERR_FILENO, b"a word past the load\n"),
+        Fault::Line => "region, image, load, range, ranges, no scratch or build expected",
+        Fault::First => "a region expected first",
+        Fault::Again => "a second region",
+        Fault::Number => "a number in hexadecimal expected",
+        Fault::Offset => "an offset in hexadecimal expected",
+        Fault::More => "too many words",
+        Fault::Pair => "index:word in hexadecimal expected",
+        Fault::Past => "a word past the load",
     }
 }
 
 // A text that is no job, by the first line that is wrong.
-fn complain(fault: Fault, row: u64) {
-    io::write_all(STDERR_FILENO, b"run: JOB: line ");
-    io::print_decimal(STDERR_FILENO, row);
-    io::write_all(STDERR_FILENO, b": ");
-    sentence(fault);
+fn complain(rt: &impl Eprint, fault: Fault, row: u64) {
+    let _ = eprintln!(rt; "run: JOB: line {row}: {}", sentence(fault));
 }
 
 // n, or `most` where n is more.
@@ -60,15 +56,22 @@ fn lent(has_scratch: bool, most: usize) -> usize
 }
 
 // Does the load that a line asks for, if it asks for one; a refusal is printed.
-fn load_line(line: &[u8], image: &mut [u8], page: &mut [u8], geometry: Geometry, r: Region) {
+fn load_line(
+    out: &impl Print,
+    line: &[u8],
+    image: &mut [u8],
+    page: &mut [u8],
+    geometry: Geometry,
+    r: Region,
+) -> io::Result<()> {
     let found = line::next_word(line, 0);
     let from = found.from;
     let to = found.to;
     if !check::same(&line[from..to], b"load") {
-        return;
+        return Ok(());
     }
     let LoadLine::Whole(load) = load::read(&line[to..], page) else {
-        return;
+        return Ok(());
     };
     let number = region::set_page_data(
         image,
@@ -78,21 +81,31 @@ fn load_line(line: &[u8], image: &mut [u8], page: &mut [u8], geometry: Geometry,
         files::front(page, load.length),
     );
     if number != 0 {
-        reports::print_load(load.gpa, number);
+        return reports::print_load(out, load.gpa, number);
     }
+    Ok(())
 }
 
-fn load_all(text: &[u8], image: &mut [u8], page: &mut [u8], geometry: Geometry, r: Region) {
+fn load_all(
+    out: &impl Print,
+    text: &[u8],
+    image: &mut [u8],
+    page: &mut [u8],
+    geometry: Geometry,
+    r: Region,
+) -> io::Result<()> {
     let mut at: usize = 0;
     while at < text.len() {
         let end = line::find(text, at, b'\n');
-        load_line(&text[at..end], image, page, geometry, r);
+        load_line(out, &text[at..end], image, page, geometry, r)?;
         at = end + 1;
     }
+    Ok(())
 }
 
 // The job itself: its loads, then its build.
 fn execute(
+    rt: &(impl Env + Files + Print + Eprint),
     text: &[u8],
     job: Job,
     image: &mut [u8],
@@ -102,8 +115,12 @@ fn execute(
     page: &mut [u8],
 ) {
     let r = job.region;
-    load_all(text, image, page, levels::geometry_of(job.cr4), r);
-    if !files::save(2, b"run: IMAGE", image) {
+    let geometry = levels::geometry_of(job.cr4);
+    if let Err(error) = load_all(rt, text, image, page, geometry, r) {
+        files::fail(rt, "archwend: the report", error);
+        return;
+    }
+    if !files::save(rt, 2, "run: IMAGE", image) {
         return;
     }
     let cpu = CpuPagingState {
@@ -111,11 +128,12 @@ fn execute(
         cr4: job.cr4,
     };
     let report = build::build(image, out, scratch, ranges, r, cpu, job.offset);
-    reports::finish(3, b"run: OUTPUT", out, report);
+    reports::finish(rt, 3, "run: OUTPUT", out, report);
 }
 
 // Image and scratch are as long as the job says, so far as that can change the answer.
 fn run(
+    rt: &(impl Env + Files + Print + Eprint),
     text: &[u8],
     image: &mut [u8],
     out: &mut [u8],
@@ -125,12 +143,13 @@ fn run(
 ) {
     let outcome = job::read(text, ranges, page);
     match outcome {
-        Outcome::Wrong(fault, row) => complain(fault, row),
-        Outcome::Unbuilt => files::complain(b"run: JOB", b"no build"),
+        Outcome::Wrong(fault, row) => complain(rt, fault, row),
+        Outcome::Unbuilt => files::complain(rt, "run: JOB", "no build"),
         Outcome::Whole(job, end) => {
             let length = cut(job.image, image.len());
             let room = lent(job.has_scratch, scratch.len());
             execute(
+                rt,
                 files::front(text, end),
                 job,
                 &mut image[0..length],
@@ -143,25 +162,30 @@ fn run(
     }
 }
 
-// The buffers as slices: their lengths are their types'.
+// The buffers as slices.
 fn lend(
+    rt: &(impl Env + Files + Print + Eprint),
     text: &[u8],
-    image: &mut [u8; IMAGE_BYTES],
-    out: &mut [u8; OUTPUT_BYTES],
-    scratch: &mut [u64; SCRATCH_WORDS],
+    image: &mut Vec<u8>,
+    out: &mut Vec<u8>,
+    scratch: &mut Vec<u64>,
     ranges: &mut [u64; RANGE_WORDS],
     page: &mut [u8; PAGE_BYTES],
 ) {
-    run(text, image, out, scratch, ranges, page);
+    run(rt, text, image, out, scratch, ranges, page);
 }
 
-fn start(text: &[u8]) {
-    let mut image = [0u8; IMAGE_BYTES];
-    let mut out = [0u8; OUTPUT_BYTES];
-    let mut scratch = [0u64; SCRATCH_WORDS];
+fn start(
+    rt: &(impl Env + Files + Print + Eprint + AllocGlobal),
+    text: &[u8],
+) -> Result<(), AllocError> {
+    let mut image = vec![in rt.alloc(); 0u8; IMAGE_BYTES]?;
+    let mut out = vec![in rt.alloc(); 0u8; OUTPUT_BYTES]?;
+    let mut scratch = vec![in rt.alloc(); 0u64; SCRATCH_WORDS]?;
     let mut ranges = [0u64; RANGE_WORDS];
     let mut page = [0u8; PAGE_BYTES];
     lend(
+        rt,
         text,
         &mut image,
         &mut out,
@@ -169,20 +193,21 @@ fn start(text: &[u8]) {
         &mut ranges,
         &mut page,
     );
+    Ok(())
 }
 
-fn main() {
-    if os::arg_count() != 4 {
-        files::complain(b"usage", b"run JOB IMAGE OUTPUT");
-        return;
+fn main(rt: HostRuntime) -> Result<(), AllocError> {
+    if files::arg_count(&rt) != 4 {
+        files::complain(&rt, "usage", "run JOB IMAGE OUTPUT");
+        return Ok(());
     }
-    let mut text = [0u8; TEXT_BYTES];
-    let Filled::Bytes(n) = files::read(1, b"run: JOB", &mut text) else {
-        return;
+    let mut text = vec![in rt.alloc(); 0u8; TEXT_BYTES]?;
+    let Filled::Bytes(n) = files::read(&rt, 1, "run: JOB", &mut text) else {
+        return Ok(());
     };
     if TEXT_MAX < n {
-        files::complain(b"run: JOB", b"longer than 262144 bytes");
-        return;
+        files::complain(&rt, "run: JOB", "longer than 262144 bytes");
+        return Ok(());
     }
-    start(files::front(&text, n));
+    start(&rt, files::front(&text, n))
 }

@@ -1,0 +1,13 @@
+-- `load_all` takes one line after the other. What is proved is that it ends and stays in the text.
+-- Invariant: the place is at most one past the text's end, and image and page are as long as at entry. Measure: the bytes left, and
+-- one more; a line has at least its end.
+-- Assumes nothing.
+use Rattle.std.proofs.Common.{length, ◌+◌, ◌-◌, ◌≡◌, ◌≤◌}
+use Rattle.run_job.proofs.load_all.Given as goal
+
+abbrev pub invariant-loop-at : goal.invariant-loop-at
+invariant-loop-at g l =
+    (l.at ≤ length l.text + 1) × (length l.image ≡ length l.fn.image) × (length l.page ≡ length l.fn.page)
+
+abbrev pub decreases-loop-at : goal.decreases-loop-at
+decreases-loop-at g l = length l.text + 1 - l.at
