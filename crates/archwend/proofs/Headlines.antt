@@ -182,10 +182,10 @@ module _
     place_is = sym (ap place_read answers.reported)
 
     no_zero : ¬ (number_read report ≡ 0) → ¬ ((build (asked c)).report.number ≡ 0)
-    no_zero no_Ok e = no_Ok (sym number_is ∙ e)
+    no_zero no_ok e = no_ok (sym number_is ∙ e)
 
     empty : ¬ (number_read report ≡ 0) → build (asked c) ≡ refused (build (asked c)).report.number (build (asked c)).report.place
-    empty no_Ok = (exact (asked c) (proper c)).empty (no_zero no_Ok)
+    empty no_ok = (exact (asked c) (proper c)).empty (no_zero no_ok)
 
     after_is : number_read report ≡ 0 → (a : ℕ) → after (asked c) a ≡ walk_in c output a
     unfolding job_of plan_of root
@@ -229,7 +229,7 @@ module _
     pub refused_for :
         ¬ (number_read report ≡ 0)
         → Given (asked c) (number_read report) (place_read report)
-    refused_for no_Ok = rw (number_is, place_is) at ((exact (asked c) (proper c)).reason (no_zero no_Ok))
+    refused_for no_ok = rw (number_is, place_is) at ((exact (asked c) (proper c)).reason (no_zero no_ok))
 
     -- of the conditions of the inputs the lowest is given
     pub lowest_input :
@@ -248,16 +248,16 @@ module _
         ¬ (number_read report ≡ 0)
         → output ≡ replicate c.output_length 0
     unfolding job_of
-    refused_output no_Ok = answers.built ∙ output_refused (asked c) _ _ (empty no_Ok)
+    refused_output no_ok = answers.built ∙ output_refused (asked c) _ _ (empty no_ok)
 
     -- every word of the report but number and place is 0
     pub refused_report :
         ¬ (number_read report ≡ 0)
         → (used_read report ≡ 0) × (moved_read report ≡ 0) × (merged_read report ≡ 0) × (reached_read report ≡ 0)
     unfolding refused
-    refused_report no_Ok =
+    refused_report no_ok =
         let e : report_read report ≡ (refused (build (asked c)).report.number (build (asked c)).report.place).report =
-        report_read_lem ∙ ap (λ (b : Built). b.report) (empty no_Ok) in (
+        report_read_lem ∙ ap (λ (b : Built). b.report) (empty no_ok) in (
           ap (λ (r : Report). r.used) e,
           ap (λ (r : Report). r.moved) e,
           ap (λ (r : Report). r.merged) e,
@@ -460,7 +460,7 @@ module _
     pub refused_load :
         ¬ (n ≡ 0)
         → after ≡ image
-    refused_load no_Ok = ⊎_elim (λ z. z.1) (⊎_elim (λ z. absurd (no_Ok z.0)) (λ z. absurd (no_Ok z.0))) ends
+    refused_load no_ok = ⊎_elim (λ z. z.1) (⊎_elim (λ z. absurd (no_ok z.0)) (λ z. absurd (no_ok z.0))) ends
 
     -- accepted without a page: the image is as it was
     pub empty_load :
