@@ -2,7 +2,7 @@
 -- Assumes nothing.
 use Rattle.std.proofs.Common.{◌≡◌, ℕ, zero, suc, ◌+◌, ◌-◌, ◌*◌, ◌/◌, ◌%◌, ◌<◌, ◌≤◌, Bool, true, false, cond, eqb, List, [], ◌∷◌, ◌++◌, length, get_or, take, drop, replicate, sym, refl, ap, ◌∙◌, ap₂, add-zero, add-suc, arith, length-append, length-drop, length-take-le, get_or-drop, get_or-take}
 use Rattle.definitions.specs.Words.{Mem, number, words_of}
-use Rattle.definitions.specs.Compare.{Change, change_at, changes_from, changes, comparable, listed, compare}
+use Rattle.definitions.specs.Compare.{Change, change_at, changes_from, changes, comparable, listed}
 use Rattle.definitions.proofs.Compare.{changes_split, comparable_iff, compare_listed}
 use Rattle.compare.specs.Meaning.{changes_of, compared, Compares}
 use Rattle.compare_files.specs.Text.{lines, count_line, printed, quadruples, as_of, in_table, page_lines, page, pages_count, pages_lines}

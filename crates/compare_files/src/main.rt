@@ -10,11 +10,16 @@ ghost use Rattle.compare_files.specs.Meaning.{Within, HoldsPage};
 
 use definitions::refusals;
 use files::Filled;
-use libc::{STDERR_FILENO, STDOUT_FILENO};
 use page::{PAGE, TEXT, WORDS};
+use std::io;
+use std::io::Read;
+use std::rt::{Env, Files};
 
 // A reading stops after so many pages: one more than an image may have.
 const PAGES: u64 = 513;
+
+// Room for the line with the count.
+const COUNT: usize = 33;
 
 // Two sums over words: of the words, and of what the first sum was after each, so that their order counts too.
 #[derive(Clone, Copy)]
@@ -46,23 +51,25 @@ enum Pair {
     Broken,
 }
 
-fn read_page(fd: i32, what: &[u8], page: &mut [u8; PAGE]) -> Filled
+fn read_page(rt: &impl Eprint, file: &mut impl Read, what: &str, page: &mut [u8; PAGE]) -> Filled
     ensures { bytes_read result ≤ 4096 }
 {
-    let filled = files::fill(fd, page);
-    if let Filled::Failed = filled {
-        os::fail(what);
-    }
-    filled
+    files::fill(rt, file, what, page)
 }
 
-fn read_pair(older_fd: i32, newer_fd: i32, older: &mut [u8; PAGE], newer: &mut [u8; PAGE]) -> Pair
+fn read_pair(
+    rt: &impl Eprint,
+    older_file: &mut impl Read,
+    newer_file: &mut impl Read,
+    older: &mut [u8; PAGE],
+    newer: &mut [u8; PAGE],
+) -> Pair
     ensures { Within result }
 {
-    let Filled::Bytes(m) = read_page(older_fd, b"compare: OLDER", older) else {
+    let Filled::Bytes(m) = read_page(rt, older_file, "compare: OLDER", older) else {
         return Pair::Broken;
     };
-    let Filled::Bytes(n) = read_page(newer_fd, b"compare: NEWER", newer) else {
+    let Filled::Bytes(n) = read_page(rt, newer_file, "compare: NEWER", newer) else {
         return Pair::Broken;
     };
     Pair::Bytes(m, n)
@@ -72,11 +79,9 @@ fn read_pair(older_fd: i32, newer_fd: i32, older: &mut [u8; PAGE], newer: &mut [
 fn add_words(sums: Sums, page: &[u8]) -> Sums {
     let mut plain = sums.plain;
     let mut running = sums.running;
-    let mut k: usize = 0;
-    while k < page.len() / 8 {
-        plain = std::num::wrapping_add_u64(plain, words::read_word(page, k));
-        running = std::num::wrapping_add_u64(running, plain);
-        k += 1;
+    for k in 0..page.len() / 8 {
+        plain = plain.wrapping_add(words::read_word(page, k));
+        running = running.wrapping_add(plain);
     }
     Sums {
         plain: plain,
@@ -84,8 +89,18 @@ fn add_words(sums: Sums, page: &[u8]) -> Sums {
     }
 }
 
+// Whether standard output takes it; what goes wrong is said on standard error.
+fn put(rt: &(impl Print + Eprint), bytes: &[u8]) -> bool {
+    if let Err(error) = rt.write_all(bytes) {
+        files::fail(rt, "compare: the differences", error);
+        return false;
+    }
+    true
+}
+
 // Two pages more: their differences are counted, and printed where they are to be listed.
 fn hold(
+    rt: &(impl Print + Eprint),
     reading: Reading,
     is_listing: bool,
     older: &[u8; PAGE],
@@ -99,8 +114,7 @@ fn hold(
 {
     let page = page::differences(is_listing, older, newer, list, table, out);
     let length = page.length;
-    if !io::write_all(STDOUT_FILENO, files::front(out, length)) {
-        os::fail(b"compare: the differences");
+    if !put(rt, files::front(out, length)) {
         return Outcome::Failed;
     }
     let sums = add_words(add_words(reading.sums, older), newer);
@@ -115,8 +129,9 @@ fn hold(
 
 // Ends at the first page that is not whole in both files: how long both are is known then, or that they can't be compared.
 fn read_pages(
-    older_fd: i32,
-    newer_fd: i32,
+    rt: &(impl Print + Eprint),
+    older_file: &mut impl Read,
+    newer_file: &mut impl Read,
     is_listing: bool,
     older: &mut [u8; PAGE],
     newer: &mut [u8; PAGE],
@@ -132,9 +147,8 @@ fn read_pages(
             running: 0,
         },
     };
-    let mut table: u64 = 0;
-    while table < PAGES {
-        let Pair::Bytes(m, n) = read_pair(older_fd, newer_fd, older, newer) else {
+    for table in 0..PAGES {
+        let Pair::Bytes(m, n) = read_pair(rt, older_file, newer_file, older, newer) else {
             return Outcome::Failed;
         };
         reading.older += m as u64;
@@ -145,34 +159,36 @@ fn read_pages(
         if n < PAGE {
             return Outcome::Read(reading);
         }
-        let Outcome::Read(next) = hold(reading, is_listing, older, newer, list, table, out) else {
+        let Outcome::Read(next) = hold(rt, reading, is_listing, older, newer, list, table, out)
+        else {
             return Outcome::Failed;
         };
         reading = next;
-        table += 1;
     }
     Outcome::Read(reading)
 }
 
-fn read_files(is_listing: bool) -> Outcome {
-    let older_fd = files::open(1, b"compare: OLDER");
-    if older_fd < 0 {
+fn read_files(rt: &(impl Env + Files + Print + Eprint), is_listing: bool) -> Outcome {
+    let Some(mut older_file) = files::open(rt, 1, "compare: OLDER") else {
         return Outcome::Failed;
-    }
-    let newer_fd = files::open(2, b"compare: NEWER");
-    if newer_fd < 0 {
+    };
+    let Some(mut newer_file) = files::open(rt, 2, "compare: NEWER") else {
         return Outcome::Failed;
-    }
+    };
     let mut older = [0u8; PAGE];
     let mut newer = [0u8; PAGE];
     let mut list = [0u64; WORDS];
     let mut out = [0u8; TEXT];
-    let outcome = read_pages(
-        older_fd, newer_fd, is_listing, &mut older, &mut newer, &mut list, &mut out,
-    );
-    libc::close(older_fd);
-    libc::close(newer_fd);
-    outcome
+    read_pages(
+        rt,
+        &mut older_file,
+        &mut newer_file,
+        is_listing,
+        &mut older,
+        &mut newer,
+        &mut list,
+        &mut out,
+    )
 }
 
 // Whether two readings found the same.
@@ -195,43 +211,37 @@ fn same(a: Reading, b: Reading) -> bool {
 }
 
 // The number of a refusal, and its sentence.
-fn refuse(number: u64) {
-    io::write_all(STDERR_FILENO, b"compare: ");
-    io::print_decimal(STDERR_FILENO, number);
-    io::write_all(STDERR_FILENO, b" ");
-    sentences::write(STDERR_FILENO, number);
-    io::write_all(STDERR_FILENO, b"\n");
+fn refuse(out: &impl Print, number: u64) -> io::Result<()> {
+    print!(out; "compare: {number} ")?;
+    sentences::write(out, number)?;
+    out.print("\n")
 }
 
-fn print_count(count: u64) -> bool {
-    let mut out = io::buffer();
+fn print_count(rt: &(impl Print + Eprint), count: u64) -> bool {
+    let mut out = [0u8; COUNT];
     let n = page::put_count(&mut out, count);
-    let is_written = io::write_all(STDOUT_FILENO, files::front(&out, n));
-    if !is_written {
-        os::fail(b"compare: the differences");
-    }
-    is_written
+    put(rt, files::front(&out, n))
 }
 
-fn main() {
-    if os::arg_count() != 3 {
-        files::complain(b"usage", b"compare OLDER NEWER");
-        return;
+fn main(rt: HostRuntime) -> io::Result<()> {
+    if files::arg_count(&rt) != 3 {
+        files::complain(&rt, "usage", "compare OLDER NEWER");
+        return Ok(());
     }
-    let Outcome::Read(first) = read_files(false) else {
-        return;
+    let Outcome::Read(first) = read_files(&rt, false) else {
+        return Ok(());
     };
     if !compare::lengths_valid(first.older, first.newer) {
-        refuse(refusals::NOT_COMPARABLE);
-        return;
+        return refuse(&rt.stderr(), refusals::NOT_COMPARABLE);
     }
-    if !print_count(first.count) {
-        return;
+    if !print_count(&rt, first.count) {
+        return Ok(());
     }
-    let Outcome::Read(second) = read_files(true) else {
-        return;
+    let Outcome::Read(second) = read_files(&rt, true) else {
+        return Ok(());
     };
     if !same(first, second) {
-        files::complain(b"compare", b"a file changed while it was read");
+        files::complain(&rt, "compare", "a file changed while it was read");
     }
+    Ok(())
 }

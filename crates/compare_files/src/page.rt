@@ -62,8 +62,8 @@ fn put_line(out: &mut [u8], at: usize, table: u64, index: u64, before: u64, afte
 
 // The lines of a table's differences, as the list has them.
 fn put_lines(out: &mut [u8], list: &[u64], count: usize, table: u64) -> usize
-    requires count_in_bounds { 4 * count ≤ length list.now }
-    requires count_in_bounds_2 { 76 * count ≤ length out.old }
+    requires listed { 4 * count ≤ length list.now }
+    requires room { 76 * count ≤ length out.old }
     ensures { Puts (76 * count) out.old 0 (lines (in_table table (quadruples count list.now))) out.new result }
 {
     let mut at: usize = 0;

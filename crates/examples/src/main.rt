@@ -5,7 +5,7 @@
 
 use build::CpuPagingState;
 use definitions::{Region, Report};
-use libc::STDOUT_FILENO;
+use std::io;
 
 const GPA: u64 = 0x10_0000;
 
@@ -35,71 +35,65 @@ struct Variant {
     word: u64,
 }
 
-fn text(s: &[u8]) {
-    io::write_all(STDOUT_FILENO, s);
+fn text(rt: &impl Print, s: &str) -> io::Result<()> {
+    rt.print(s)
 }
 
-fn number(label: &[u8], x: u64) {
-    text(label);
-    io::print_hex(STDOUT_FILENO, x, 1);
+// A label, and a number in hexadecimal.
+fn number(rt: &impl Print, label: &str, x: u64) -> io::Result<()> {
+    print!(rt; "{label}{x:x}")
 }
 
 // The word k, as table.entry value, if the build changed it.
-fn change(image: &[u8], out: &[u8], k: usize) {
+fn change(rt: &impl Print, image: &[u8], out: &[u8], k: usize) -> io::Result<()> {
     let new = tables::word_at(out, k);
     if tables::word_at(image, k) != new {
-        number(b" | ", (k / 512) as u64);
-        text(b".");
-        io::print_decimal(STDOUT_FILENO, (k % 512) as u64);
-        number(b" ", new);
+        print!(rt; " | {:x}.{} {new:x}", k / 512, k % 512)?;
     }
+    Ok(())
 }
 
 // The entries that the build changed.
-fn changes(image: &[u8], out: &[u8]) {
-    let mut k: usize = 0;
-    while k < MOST / 8 {
-        change(image, out, k);
-        k += 1;
+fn changes(rt: &impl Print, image: &[u8], out: &[u8]) -> io::Result<()> {
+    for k in 0..MOST / 8 {
+        change(rt, image, out, k)?;
     }
+    Ok(())
 }
 
-fn print(r: Report) {
-    text(b" number ");
-    io::print_decimal(STDOUT_FILENO, r.number);
-    number(b" used ", r.used);
-    number(b" moved ", r.moved);
-    number(b" merged ", r.merged);
-    number(b" reached ", r.reached);
+fn print(rt: &impl Print, r: Report) -> io::Result<()> {
+    print!(rt;
+        " number {} used {:x} moved {:x} merged {:x} reached {:x}",
+        r.number, r.used, r.moved, r.merged, r.reached
+    )?;
     let place = r.place;
-    number(b" at ", place.address);
-    number(b" level ", place.level);
-    number(b" offset ", place.offset);
+    print!(rt;
+        " at {:x} level {:x} offset {:x}",
+        place.address, place.level, place.offset
+    )
 }
 
 // Whether every word is 0.
 fn empty(words: &[u64]) -> bool {
-    let mut i: usize = 0;
-    while i < words.len() {
-        if words[i] != 0 {
+    for word in words {
+        if *word != 0 {
             return false;
         }
-        i += 1;
     }
     true
 }
 
 // What the build left: the changed entries, or what a refusal should have zeroed.
-fn left(number: u64, image: &[u8], out: &[u8], scratch: &[u64]) {
+fn left(rt: &impl Print, number: u64, image: &[u8], out: &[u8], scratch: &[u64]) -> io::Result<()> {
     if number == 0 {
-        changes(image, out);
+        changes(rt, image, out)?;
     } else if !tables::blank(out) {
-        text(b" output not zero");
+        text(rt, " output not zero")?;
     }
     if !empty(scratch) {
-        text(b" scratch not zero");
+        text(rt, " scratch not zero")?;
     }
-    text(b"\n");
+    text(rt, "\n")
 }
 
 // The tables of the base.
@@ -110,7 +104,13 @@ fn put_base(image: &mut [u8]) {
 }
 
 // Builds with one range. The buffers are lent full of other bytes.
-fn build_by(ranges: &[u64], image: &[u8], size: u64, cpu: CpuPagingState) {
+fn build_by(
+    rt: &impl Print,
+    ranges: &[u64],
+    image: &[u8],
+    size: u64,
+    cpu: CpuPagingState,
+) -> io::Result<()> {
     let mut out = [0xa5u8; MOST];
     let mut scratch = [7u64; 4];
     let r = Region {
@@ -119,14 +119,20 @@ fn build_by(ranges: &[u64], image: &[u8], size: u64, cpu: CpuPagingState) {
         used: image.len() as u64,
     };
     let report = build::build(image, &mut out, &mut scratch, ranges, r, cpu, 0);
-    print(report);
-    left(report.number, image, &out, &scratch);
+    print(rt, report)?;
+    left(rt, report.number, image, &out, &scratch)
 }
 
 // With an offset of the range over the base's leaf.
-fn build(image: &[u8], offset: u64, size: u64, cpu: CpuPagingState) {
+fn build(
+    rt: &impl Print,
+    image: &[u8],
+    offset: u64,
+    size: u64,
+    cpu: CpuPagingState,
+) -> io::Result<()> {
     let ranges = [0x20_0000u64, 0x3f_ffff, offset];
-    build_by(&ranges, image, size, cpu);
+    build_by(rt, &ranges, image, size, cpu)
 }
 
 // The registers of the base.
@@ -135,47 +141,49 @@ fn four() -> CpuPagingState {
 }
 
 // Runs the base with an offset and a change.
-fn run(offset: u64, c: Variant) {
+fn run(rt: &impl Print, offset: u64, c: Variant) -> io::Result<()> {
     let mut image = [0u8; USED];
     put_base(&mut image);
     tables::put(&mut image, c.slot, c.word);
-    build(&image, offset, c.size, four());
+    build(rt, &image, offset, c.size, four())
 }
 
 // The base as it is, with an offset.
-fn plain(label: &[u8], offset: u64) {
-    text(label);
+fn plain(rt: &impl Print, label: &str, offset: u64) -> io::Result<()> {
+    text(rt, label)?;
     run(
+        rt,
         offset,
         Variant {
             size: 0x8000,
             slot: MAPPED,
             word: 0x20_00e3,
         },
-    );
+    )
 }
 
 // The base with offset 0x200000 and one entry more.
-fn with_entry(label: &[u8], slot: usize, word: u64) {
-    text(label);
+fn with_entry(rt: &impl Print, label: &str, slot: usize, word: u64) -> io::Result<()> {
+    text(rt, label)?;
     run(
+        rt,
         0x20_0000,
         Variant {
             size: 0x8000,
             slot: slot,
             word: word,
         },
-    );
+    )
 }
 
-fn indices() {
+fn indices(rt: &impl Print) -> io::Result<()> {
     let i = levels::indices(0x60_3000);
-    number(b"address 603000: indices ", i[4]);
-    number(b" ", i[3]);
-    number(b" ", i[2]);
-    number(b" ", i[1]);
-    number(b" ", i[0]);
-    text(b"\n");
+    number(rt, "address 603000: indices ", i[4])?;
+    number(rt, " ", i[3])?;
+    number(rt, " ", i[2])?;
+    number(rt, " ", i[1])?;
+    number(rt, " ", i[0])?;
+    text(rt, "\n")
 }
 
 // The registers of a guest with five levels.
@@ -193,17 +201,18 @@ fn put_base_5(image: &mut [u8]) {
 }
 
 // Runs the base under a level-4 root with an offset and a change.
-fn run_5(label: &[u8], offset: u64, c: Variant) {
-    text(label);
+fn run_5(rt: &impl Print, label: &str, offset: u64, c: Variant) -> io::Result<()> {
+    text(rt, label)?;
     let mut image = [0u8; USED_5];
     put_base_5(&mut image);
     tables::put(&mut image, c.slot, c.word);
-    build(&image, offset, c.size, five(ROOT_5));
+    build(rt, &image, offset, c.size, five(ROOT_5))
 }
 
 // As it is, with an offset.
-fn plain_5(label: &[u8], offset: u64, size: u64) {
+fn plain_5(rt: &impl Print, label: &str, offset: u64, size: u64) -> io::Result<()> {
     run_5(
+        rt,
         label,
         offset,
         Variant {
@@ -211,12 +220,19 @@ fn plain_5(label: &[u8], offset: u64, size: u64) {
             slot: MAPPED,
             word: 0x20_00e3,
         },
-    );
+    )
 }
 
 // With one entry more in the root.
-fn with_entry_5(label: &[u8], offset: u64, slot: usize, word: u64) {
+fn with_entry_5(
+    rt: &impl Print,
+    label: &str,
+    offset: u64,
+    slot: usize,
+    word: u64,
+) -> io::Result<()> {
     run_5(
+        rt,
         label,
         offset,
         Variant {
@@ -224,124 +240,140 @@ fn with_entry_5(label: &[u8], offset: u64, slot: usize, word: u64) {
             slot: slot,
             word: word,
         },
-    );
+    )
 }
 
-fn root_in_tail() {
-    text(b"five levels, offset 200000, cr3 104000:");
+fn root_in_tail(rt: &impl Print) -> io::Result<()> {
+    text(rt, "five levels, offset 200000, cr3 104000:")?;
     let mut image = [0u8; USED_5];
     put_base_5(&mut image);
-    build(&image, 0x20_0000, 0x8000, five(0x10_4000));
+    build(rt, &image, 0x20_0000, 0x8000, five(0x10_4000))
 }
 
-fn bit_seven() {
-    text(b"five levels, offset 200000, 3.0 = 1000a3, 0.0 = 1010a3:");
+fn bit_seven(rt: &impl Print) -> io::Result<()> {
+    text(
+        rt,
+        "five levels, offset 200000, 3.0 = 1000a3, 0.0 = 1010a3:",
+    )?;
     let mut image = [0u8; USED_5];
     put_base_5(&mut image);
     tables::put(&mut image, TABLE_3, 0x10_00a3);
     tables::put(&mut image, 0, 0x10_10a3);
-    build(&image, 0x20_0000, 0x8000, five(ROOT_5));
+    build(rt, &image, 0x20_0000, 0x8000, five(ROOT_5))
 }
 
-fn far_leaf() {
-    text(b"five levels, offset 200000, used 6000, 3.16 = 104023, 4.0 = 105023, 5.0 = e3:");
+fn far_leaf(rt: &impl Print) -> io::Result<()> {
+    text(
+        rt,
+        "five levels, offset 200000, used 6000, 3.16 = 104023, 4.0 = 105023, 5.0 = e3:",
+    )?;
     let mut image = [0u8; 0x6000];
     put_base_5(&mut image);
     tables::put(&mut image, TABLE_3 + 16, 0x10_4023);
     tables::put(&mut image, TABLE_3 + 512, 0x10_5023);
     tables::put(&mut image, TABLE_3 + 1024, 0xe3);
-    build(&image, 0x20_0000, 0x8000, five(ROOT_5));
+    build(rt, &image, 0x20_0000, 0x8000, five(ROOT_5))
 }
 
-fn five_levels() {
-    plain_5(b"five levels, offset 200000:", 0x20_0000, 0x8000);
+fn five_levels(rt: &impl Print) -> io::Result<()> {
+    plain_5(rt, "five levels, offset 200000:", 0x20_0000, 0x8000)?;
     plain_5(
-        b"five levels, offset 1000000000000:",
+        rt,
+        "five levels, offset 1000000000000:",
         0x1_0000_0000_0000,
         0x8000,
-    );
+    )?;
     plain_5(
-        b"five levels, offset 1000000000000, size 4000:",
+        rt,
+        "five levels, offset 1000000000000, size 4000:",
         0x1_0000_0000_0000,
         0x4000,
-    );
-    root_in_tail();
+    )?;
+    root_in_tail(rt)?;
     plain_5(
-        b"five levels, offset fffffffc00000:",
+        rt,
+        "five levels, offset fffffffc00000:",
         0xf_ffff_ffc0_0000,
         0x8000,
-    );
+    )?;
     plain_5(
-        b"five levels, offset fffffffe00000:",
+        rt,
+        "five levels, offset fffffffe00000:",
         0xf_ffff_ffe0_0000,
         0x8000,
-    );
-    bit_seven();
+    )?;
+    bit_seven(rt)?;
     with_entry_5(
-        b"five levels, offset 1000000000000, 3.1 = 200023:",
+        rt,
+        "five levels, offset 1000000000000, 3.1 = 200023:",
         0x1_0000_0000_0000,
         TABLE_3 + 1,
         0x20_0023,
-    );
+    )?;
     with_entry_5(
-        b"five levels, offset 200000, 3.511 = 107023:",
+        rt,
+        "five levels, offset 200000, 3.511 = 107023:",
         0x20_0000,
         TABLE_3 + 511,
         0x10_7023,
-    );
-    far_leaf();
+    )?;
+    far_leaf(rt)
 }
 
-fn gigabyte() {
-    text(b"range 40000000 to 7fffffff, offset 40000000, 1.1 = 600000e3:");
+fn gigabyte(rt: &impl Print) -> io::Result<()> {
+    text(
+        rt,
+        "range 40000000 to 7fffffff, offset 40000000, 1.1 = 600000e3:",
+    )?;
     let mut image = [0u8; USED];
     put_base(&mut image);
     tables::put(&mut image, TABLE_1 + 1, 0x6000_00e3);
     let ranges = [0x4000_0000u64, 0x7fff_ffff, 0x4000_0000];
-    build_by(&ranges, &image, 0x8000, four());
+    build_by(rt, &ranges, &image, 0x8000, four())
 }
 
 // A leaf with bit 12 meets an entry.
-fn bit_twelve(label: &[u8], met: u64) {
-    text(label);
+fn bit_twelve(rt: &impl Print, label: &str, met: u64) -> io::Result<()> {
+    text(rt, label)?;
     let mut image = [0u8; USED];
     put_base(&mut image);
     tables::put(&mut image, MAPPED, 0x20_10e3);
     tables::put(&mut image, TABLE_2 + 2, met);
-    build(&image, 0x20_0000, 0x8000, four());
+    build(rt, &image, 0x20_0000, 0x8000, four())
 }
 
-fn leaf_bits() {
-    with_entry(b"offset 200000, 2.1 = 3010e3:", MAPPED, 0x30_10e3);
-    gigabyte();
-    bit_twelve(b"offset 200000, 2.1 = 2010e3, 2.2 = 4000e3:", 0x40_00e3);
-    bit_twelve(b"offset 200000, 2.1 = 2010e3, 2.2 = 4010e3:", 0x40_10e3);
+fn leaf_bits(rt: &impl Print) -> io::Result<()> {
+    with_entry(rt, "offset 200000, 2.1 = 3010e3:", MAPPED, 0x30_10e3)?;
+    gigabyte(rt)?;
+    bit_twelve(rt, "offset 200000, 2.1 = 2010e3, 2.2 = 4000e3:", 0x40_00e3)?;
+    bit_twelve(rt, "offset 200000, 2.1 = 2010e3, 2.2 = 4010e3:", 0x40_10e3)
 }
 
-fn main() {
-    plain(b"offset 1ff000:", 0x1f_f000);
-    plain(b"offset 200000:", 0x20_0000);
-    plain(b"offset 201000:", 0x20_1000);
-    plain(b"offset 40000000:", 0x4000_0000);
-    text(b"offset 40000000, size 3000:");
+fn main(rt: HostRuntime) -> io::Result<()> {
+    plain(&rt, "offset 1ff000:", 0x1f_f000)?;
+    plain(&rt, "offset 200000:", 0x20_0000)?;
+    plain(&rt, "offset 201000:", 0x20_1000)?;
+    plain(&rt, "offset 40000000:", 0x4000_0000)?;
+    text(&rt, "offset 40000000, size 3000:")?;
     run(
+        &rt,
         0x4000_0000,
         Variant {
             size: 0x3000,
             slot: MAPPED,
             word: 0x20_00e3,
         },
-    );
-    plain(b"offset -200000:", 0xffff_ffff_ffe0_0000);
-    plain(b"offset -400000:", 0xffff_ffff_ffc0_0000);
-    with_entry(b"offset 200000, 2.2 = 4000e3:", TABLE_2 + 2, 0x40_00e3);
-    with_entry(b"offset 200000, 2.2 = 4000e1:", TABLE_2 + 2, 0x40_00e1);
-    with_entry(b"offset 200000, 0.511 = 100023:", 511, 0x10_0023);
-    with_entry(b"offset 200000, 2.0 = 103023:", TABLE_2, 0x10_3023);
-    with_entry(b"offset 200000, 2.0 = 108023:", TABLE_2, 0x10_8023);
-    plain(b"offset ffffffc00000:", 0xffff_ffc0_0000);
-    plain(b"offset ffffffe00000:", 0xffff_ffe0_0000);
-    indices();
-    five_levels();
-    leaf_bits();
+    )?;
+    plain(&rt, "offset -200000:", 0xffff_ffff_ffe0_0000)?;
+    plain(&rt, "offset -400000:", 0xffff_ffff_ffc0_0000)?;
+    with_entry(&rt, "offset 200000, 2.2 = 4000e3:", TABLE_2 + 2, 0x40_00e3)?;
+    with_entry(&rt, "offset 200000, 2.2 = 4000e1:", TABLE_2 + 2, 0x40_00e1)?;
+    with_entry(&rt, "offset 200000, 0.511 = 100023:", 511, 0x10_0023)?;
+    with_entry(&rt, "offset 200000, 2.0 = 103023:", TABLE_2, 0x10_3023)?;
+    with_entry(&rt, "offset 200000, 2.0 = 108023:", TABLE_2, 0x10_8023)?;
+    plain(&rt, "offset ffffffc00000:", 0xffff_ffc0_0000)?;
+    plain(&rt, "offset ffffffe00000:", 0xffff_ffe0_0000)?;
+    indices(&rt)?;
+    five_levels(&rt)?;
+    leaf_bits(&rt)
 }
