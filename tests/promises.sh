@@ -60,7 +60,7 @@ while IFS=: read -r file name; do
 done <"$room/names"
 
 # ---- 2. Each paragraph that is cited is there.
-{ grep -raonE '§[0-9]+(\.[0-9]+)?' --exclude-dir=target README.md crates crates.txt docs include loader oracle tests || true; } |
+{ grep -raonE '§[0-9]+(\.[0-9]+)?' --exclude-dir=target --exclude-dir=out README.md crates crates.txt docs include loader oracle tests || true; } |
     while IFS=: read -r file line cited; do
         paragraph "${cited#§}" || fail "$file:$line: $cited is no paragraph of $spec"
     done
