@@ -9,6 +9,8 @@ const HEADER: &str = "include/archwend.h";
 /// The crate that is the archive, by the kit's name for it.
 const CRATE: &str = "crates/archwend_c";
 const MADE: &str = "out/libarchwend_c.a";
+/// What rt is to do there: code for every x86-64 processor.
+const LIB: [&str; 3] = ["lib", "--cpu", "x86-64"];
 /// What a crate is made from. Beside it the kit keeps its work, in out/.
 const PARTS: [&str; 3] = ["src", "specs", "proofs"];
 
@@ -96,12 +98,12 @@ fn prove(root: &Path, out: &Path) -> Result<PathBuf, String> {
         &own
     };
     let folder = root.join(CRATE);
-    match Command::new("rt").arg("lib").current_dir(&folder).stdin(Stdio::null()).output() {
+    match Command::new("rt").args(LIB).current_dir(&folder).stdin(Stdio::null()).output() {
         Ok(o) if o.status.success() => Ok(folder.join(MADE)),
         Ok(o) => {
             let said = [o.stdout, o.stderr].concat();
             let said = String::from_utf8_lossy(&said);
-            Err(format!("`rt lib` in {} ended with {}:\n{said}", folder.display(), o.status))
+            Err(format!("`rt {}` in {} ended with {}:\n{said}", LIB.join(" "), folder.display(), o.status))
         }
         Err(e) => Err(format!(
             "the proof kit, which writes {ARCHIVE}, can't be run (rt: {e}): install the kit, or set ARCHWEND_LIB_DIR to the \

@@ -132,14 +132,14 @@ verdict "documentation, rt" not_run
 
 script $X86_TARGET "$room/repository/loader"
 verdict "the repository" linked "$archive"
-verdict "the repository, rt" [ "$(cat "$MARKS")" = "$room/repository/crates/archwend_c lib" ]
+verdict "the repository, rt" [ "$(cat "$MARKS")" = "$room/repository/crates/archwend_c lib --cpu x86-64" ]
 verdict "the repository, watched" watched "$room"/repository/crates/{archwend/specs,archwend/src,archwend_c/src} \
     "$room/repository/crates.txt" "$room/repository/include/archwend.h"
 echo "another" >another
 script $X86_TARGET "$room/repository/loader" ARCHIVE="$room/another"
 verdict "no archive of before" linked another
 script $X86_TARGET "$room/repository/loader" RT_FAILS=1
-verdict "rt fails" said "\`rt lib\` in $room/repository/crates/archwend_c ended with exit status: 1:\\na proof is missing"
+verdict "rt fails" said "\`rt lib --cpu x86-64\` in $room/repository/crates/archwend_c ended with exit status: 1:\\na proof is missing"
 script $X86_TARGET "$room/repository/loader" PATH="$room/empty"
 verdict "no rt" said "the proof kit, which writes libarchwend.a, can't be run (rt: No such file or directory"
 # an out/ that can't be a folder stands for a repository that can't be written
@@ -147,7 +147,7 @@ rm -r repository/crates/archwend_c/out
 echo "a file" >repository/crates/archwend_c/out
 script $X86_TARGET "$room/repository/loader"
 verdict "nothing can be written" linked "$archive"
-verdict "nothing can be written, rt" [ "$(cat "$MARKS")" = "$room/o/repository/crates/archwend_c lib" ]
+verdict "nothing can be written, rt" [ "$(cat "$MARKS")" = "$room/o/repository/crates/archwend_c lib --cpu x86-64" ]
 same_parts() { diff <(parts repository) <(parts o/repository); }
 parts() { (cd "$1" && find crates -path '*/src/*' -o -path '*/specs/*' | sort | xargs sha256sum); }
 verdict "nothing can be written, the crates" same_parts
