@@ -1,11 +1,18 @@
 // Finds libarchwend.a, or lets the proof kit write it, and links a copy. Where that can't be done the crate still builds as
 // documentation: src/lib.rs includes linked.rs, which then has the reason as a compile error.
 use std::path::{Path, PathBuf};
-use std::process::Command;
+use std::process::{Command, Stdio};
 use std::{env, fs, io};
 
 const ARCHIVE: &str = "libarchwend.a";
 const HEADER: &str = "include/archwend.h";
+/// The crate that is the archive, by the kit's name for it.
+const CRATE: &str = "crates/archwend_c";
+const MADE: &str = "out/libarchwend_c.a";
+/// What rt is to do there: code for every x86-64 processor.
+const LIB: [&str; 3] = ["lib", "--cpu", "x86-64"];
+/// What a crate is made from. Beside it the kit keeps its work, in out/.
+const PARTS: [&str; 3] = ["src", "specs", "proofs"];
 
 fn main() {
     for name in ["ARCHWEND_LIB_DIR", "DOCS_RS"] {
@@ -61,7 +68,7 @@ fn archive(out: &Path) -> Result<PathBuf, String> {
     }
     let root = here.parent().filter(|p| fs::canonicalize(p.join("loader")).map_or(false, |l| l == here));
     let has = |names: &[&str]| root.filter(|r| names.iter().all(|n| r.join(n).exists()));
-    if let Some(root) = has(&["crates.txt", "crates/archwend", HEADER]) {
+    if let Some(root) = has(&["crates.txt", CRATE, HEADER]) {
         return prove(root, out);
     }
     if let Some(root) = has(&["lib/libarchwend.a", HEADER]) {
@@ -78,22 +85,25 @@ fn archive(out: &Path) -> Result<PathBuf, String> {
 
 /// Lets the kit write the archive as the crates now are; it proves what changed. Not the archive is watched, which is rewritten.
 fn prove(root: &Path, out: &Path) -> Result<PathBuf, String> {
-    for name in ["crates", "crates.txt", HEADER] {
+    let crates = root.join("crates");
+    let parts = parts_of(&crates).map_err(|e| format!("{} can't be read: {e}", crates.display()))?;
+    for name in parts.iter().map(PathBuf::as_path).chain([Path::new("crates.txt"), Path::new(HEADER)]) {
         watch(&root.join(name));
     }
     let own = out.join("repository");
-    let root = if can_write(&root.join("target")) {
+    let root = if can_write(&root.join(CRATE).join("out")) {
         root
     } else {
-        copy_repository(root, &own).map_err(|e| format!("the repository can't be copied to {}: {e}", own.display()))?;
+        copy_repository(root, &own, &parts).map_err(|e| format!("the repository can't be copied to {}: {e}", own.display()))?;
         &own
     };
-    match Command::new("rt").args(["staticlib", "archwend"]).current_dir(root).output() {
-        Ok(o) if o.status.success() => Ok(root.join("target/staticlib").join(ARCHIVE)),
+    let folder = root.join(CRATE);
+    match Command::new("rt").args(LIB).current_dir(&folder).stdin(Stdio::null()).output() {
+        Ok(o) if o.status.success() => Ok(folder.join(MADE)),
         Ok(o) => {
             let said = [o.stdout, o.stderr].concat();
             let said = String::from_utf8_lossy(&said);
-            Err(format!("`rt staticlib archwend` in {} ended with {}:\n{said}", root.display(), o.status))
+            Err(format!("`rt {}` in {} ended with {}:\n{said}", LIB.join(" "), folder.display(), o.status))
         }
         Err(e) => Err(format!(
             "the proof kit, which writes {ARCHIVE}, can't be run (rt: {e}): install the kit, or set ARCHWEND_LIB_DIR to the \
@@ -107,13 +117,26 @@ fn can_write(folder: &Path) -> bool {
     fs::create_dir_all(folder).and_then(|()| fs::write(&probe, "")).and_then(|()| fs::remove_file(&probe)).is_ok()
 }
 
-/// A copy without what was there before, but for what the kit keeps of it.
-fn copy_repository(from: &Path, to: &Path) -> io::Result<()> {
-    let crates = to.join("crates");
-    if crates.exists() {
-        fs::remove_dir_all(&crates)?;
+/// The folders that crates are made from, as crates/NAME/src.
+fn parts_of(crates: &Path) -> io::Result<Vec<PathBuf>> {
+    let mut found = Vec::new();
+    for entry in fs::read_dir(crates)? {
+        let entry = entry?;
+        let name = Path::new("crates").join(entry.file_name());
+        found.extend(PARTS.iter().filter(|p| entry.path().join(p).is_dir()).map(|p| name.join(p)));
     }
-    copy_folder(&from.join("crates"), &crates)?;
+    found.sort();
+    Ok(found)
+}
+
+/// A copy without what was there before, but for what the kit keeps of it.
+fn copy_repository(from: &Path, to: &Path, parts: &[PathBuf]) -> io::Result<()> {
+    for part in parts_of(&to.join("crates")).unwrap_or_default() {
+        fs::remove_dir_all(to.join(part))?;
+    }
+    for part in parts {
+        copy_folder(&from.join(part), &to.join(part))?;
+    }
     fs::write(to.join("crates.txt"), fs::read(from.join("crates.txt"))?)
 }
 

@@ -14,10 +14,9 @@ cd "$room"
 run dist one
 verdict "a bundle" [ $status = 0 ]
 bundle=$(cat out)
-# elsewhere the library is linked anew
-mkdir -p copy/target
-cp -R "$root"/{archwend,crates,crates.txt,docs,include,loader,NOTICE,tests} copy
-cp -R "$root"/target/{rlib,stamp} copy/target
+# elsewhere the library is linked anew; rt takes what it proved of the same text from where it was proved
+mkdir copy
+tar -C "$root" -c --no-wildcards-match-slash --exclude='crates/*/out' archwend crates crates.txt docs include loader NOTICE tests | tar -x -C copy
 touch copy/loader/src/*
 copy/archwend dist two >out 2>err
 verdict "the same bytes from another folder" cmp "$bundle" "$(cat out)"

@@ -63,7 +63,7 @@ library() {
     [ -z "${ARCHWEND_LIB_DIR:-}" ] || return 0
     root=$(cd "$(dirname "${BASH_SOURCE[0]}")/.." && pwd)
     log=$(mktemp)
-    (cd "$root" && rt staticlib archwend) >"$log" 2>&1 || {
+    "$root/archwend" library >"$log" 2>&1 || {
         cat "$log" >&2
         rm -f "$log"
         return 1

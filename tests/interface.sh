@@ -33,8 +33,7 @@ verdict "no data that is written" [ ! -s writable ]
 verdict "SSE registers are used, and no wider ones" grep -q '%xmm' code
 verdict "no register wider than SSE's" bash -c '! grep -qE "%[yz]mm|%st" code'
 awk '/>:$/ { name = $2 } /-0x[0-9a-f]+\(%rsp/ { print substr(name, 2, length(name) - 3) }' code | sort -u >red
-verdict "four use the red zone" \
-    diff <(printf 'archwend_%s\n' extract_individual_masks leaf_gpa mapping_size set_leaf_addr) red
+verdict "one uses the red zone" diff <(echo archwend_extract_individual_masks) red
 "$CC_X86" -std=gnu99 -Wall -Wextra -Werror -I "$root/include" "$root/tests/stack.c" "$archive" -o stack
 $RUN_X86 ./stack >depth
 verdict "a call takes less than 8 KiB of stack ($(cat depth) bytes)" [ "$(cat depth)" -gt 512 -a "$(cat depth)" -lt 8192 ]

@@ -32,9 +32,10 @@ cat >kit/rt <<'RT'
 #!/usr/bin/env bash
 echo "$PWD $*" >>"$MARKS"
 [ -z "${RT_FAILS:-}" ] || { echo "a proof is missing"; exit 1; }
-mkdir -p target/staticlib && cp "$ARCHIVE" target/staticlib/libarchwend.a
+mkdir -p out && cp "$ARCHIVE" out/libarchwend_c.a
 RT
 chmod +x kit/rt
+echo "a kit" >KIT-ID
 export MARKS=$room/marks ARCHIVE=$archive
 marks() { if [ -e "$MARKS" ]; then wc -l <"$MARKS"; else echo 0; fi; }
 not_run() { [ ! -e "$MARKS" ]; }
@@ -45,10 +46,11 @@ crate_at() { # FOLDER: the crate, as it is packaged
 }
 
 repository_at() { # FOLDER: what of the repository a build looks at
-    mkdir -p "$1/crates/archwend" "$1/include"
+    mkdir -p "$1"/crates/archwend/{src,specs} "$1/crates/archwend_c/src" "$1/include"
     cp "$root/include/archwend.h" "$1/include"
-    echo "archwend:" >"$1/crates.txt"
-    echo "one" >"$1/crates/archwend/part"
+    cp "$root/archwend" "$1"
+    printf 'archwend:\narchwend_c staticlib: archwend\n' >"$1/crates.txt"
+    echo "one" | tee "$1"/crates/{archwend/src,archwend/specs,archwend_c/src}/part >"$1/crates/archwend/stdout"
     crate_at "$1/loader"
 }
 
@@ -130,27 +132,31 @@ verdict "documentation, rt" not_run
 
 script $X86_TARGET "$room/repository/loader"
 verdict "the repository" linked "$archive"
-verdict "the repository, rt" [ "$(cat "$MARKS")" = "$room/repository staticlib archwend" ]
-verdict "the repository, watched" watched "$room/repository/crates" "$room/repository/crates.txt" "$room/repository/include/archwend.h"
+verdict "the repository, rt" [ "$(cat "$MARKS")" = "$room/repository/crates/archwend_c lib --cpu x86-64" ]
+verdict "the repository, watched" watched "$room"/repository/crates/{archwend/specs,archwend/src,archwend_c/src} \
+    "$room/repository/crates.txt" "$room/repository/include/archwend.h"
 echo "another" >another
 script $X86_TARGET "$room/repository/loader" ARCHIVE="$room/another"
 verdict "no archive of before" linked another
 script $X86_TARGET "$room/repository/loader" RT_FAILS=1
-verdict "rt fails" said "\`rt staticlib archwend\` in $room/repository ended with exit status: 1:\\na proof is missing"
+verdict "rt fails" said "\`rt lib --cpu x86-64\` in $room/repository/crates/archwend_c ended with exit status: 1:\\na proof is missing"
 script $X86_TARGET "$room/repository/loader" PATH="$room/empty"
 verdict "no rt" said "the proof kit, which writes libarchwend.a, can't be run (rt: No such file or directory"
-# a target that can't be a folder stands for a repository that can't be written
-rm -r repository/target
-echo "a file" >repository/target
+# an out/ that can't be a folder stands for a repository that can't be written
+rm -r repository/crates/archwend_c/out
+echo "a file" >repository/crates/archwend_c/out
 script $X86_TARGET "$room/repository/loader"
 verdict "nothing can be written" linked "$archive"
-verdict "nothing can be written, rt" [ "$(cat "$MARKS")" = "$room/o/repository staticlib archwend" ]
-verdict "nothing can be written, the crates" diff -r repository/crates o/repository/crates
+verdict "nothing can be written, rt" [ "$(cat "$MARKS")" = "$room/o/repository/crates/archwend_c lib --cpu x86-64" ]
+same_parts() { diff <(parts repository) <(parts o/repository); }
+parts() { (cd "$1" && find crates -path '*/src/*' -o -path '*/specs/*' | sort | xargs sha256sum); }
+verdict "nothing can be written, the crates" same_parts
 verdict "nothing can be written, crates.txt" cmp -s repository/crates.txt o/repository/crates.txt
-mv repository/crates/archwend/part repository/crates/archwend/renamed
+mv repository/crates/archwend/src/part repository/crates/archwend/src/renamed
+rm -r repository/crates/archwend/specs
 script $X86_TARGET "$room/repository/loader"
-verdict "nothing can be written, again" diff -r repository/crates o/repository/crates
-rm repository/target
+verdict "nothing can be written, again" same_parts
+rm repository/crates/archwend_c/out
 
 # ---- with cargo
 
@@ -197,7 +203,7 @@ verdict "a build in the repository, rt" [ "$(marks)" = 1 ]
 build
 verdict "an unchanged build" [ "$(marks)" = 1 ]
 verdict "an unchanged build compiles nothing" [ -z "$(grep Compiling err)" ]
-echo "two" >repository/crates/archwend/part
+echo "two" >repository/crates/archwend/src/part
 build
 verdict "a changed crate" [ "$(marks)" = 2 ]
 

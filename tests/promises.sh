@@ -1,5 +1,5 @@
 #!/usr/bin/env bash
-# The specification, the comments that cite it and docs/PROMISES.md fit together and fit the code: see the five headings below.
+# The specification, the comments that cite it and docs/PROMISES.md fit together and fit the code: see the six headings below.
 # A line for each failure; exit status 0: none.
 set -euo pipefail
 cd "$(dirname "$0")/.."
@@ -60,7 +60,7 @@ while IFS=: read -r file name; do
 done <"$room/names"
 
 # ---- 2. Each paragraph that is cited is there.
-{ grep -raonE '§[0-9]+(\.[0-9]+)?' --exclude-dir=target README.md crates crates.txt docs include loader oracle tests || true; } |
+{ grep -raonE '§[0-9]+(\.[0-9]+)?' --exclude-dir=target --exclude-dir=out README.md crates crates.txt docs include loader oracle tests || true; } |
     while IFS=: read -r file line cited; do
         paragraph "${cited#§}" || fail "$file:$line: $cited is no paragraph of $spec"
     done
@@ -126,6 +126,13 @@ sed -n '/^## Wrong programs/,$p' "$page" | { grep -oE '`[a-z0-9_]+/[a-z0-9_]+`' 
 while read -r edit; do
     [ -f "crates/${edit%/*}/must-fail/${edit#*/}.edit" ] || fail "$page: no edit $edit"
 done <"$room/edits"
+
+# ---- 6. What crates/archwend_c exports has the parameters and clauses of archwend's function of its name.
+signatures() { # CRATE
+    sed -n '/^pub .*fn archwend_/,/^{$/p' "crates/$1/src/lib.rt" "crates/$1/src/entries.rt" | tr -s ' \n' '  ' |
+        sed -e 's/ extern "C"//g' -e 's/( /(/g' -e 's/, *)/)/g' -e 's/ { pub /\npub /g'
+}
+diff <(signatures archwend) <(signatures archwend_c) | sed -n 's/^[<>] /archwend and archwend_c differ: /p' >>"$room/failures" || :
 
 if [ -s "$room/failures" ]; then
     cat "$room/failures"

@@ -59,8 +59,7 @@ fn flag(b: bool) -> u64
 }
 
 // The entry becomes a fresh one: 0, or 20 and it stays.
-#[unsafe(no_mangle)]
-pub extern "C" fn archwend_set_entry(word: &mut u64, kind: u64, addr: u64) -> u64
+pub fn archwend_set_entry(word: &mut u64, kind: u64, addr: u64) -> u64
     ensures { SetsFresh word.old kind addr result word.new }
 {
     let old = PageTableEntry { entry: *word };
@@ -69,8 +68,7 @@ pub extern "C" fn archwend_set_entry(word: &mut u64, kind: u64, addr: u64) -> u6
 }
 
 // A table entry gets another address: 0, or 20 and it stays.
-#[unsafe(no_mangle)]
-pub extern "C" fn archwend_set_addr(word: &mut u64, addr: u64) -> u64
+pub fn archwend_set_addr(word: &mut u64, addr: u64) -> u64
     ensures { SetsAddr word.old addr result word.new }
 {
     let old = PageTableEntry { entry: *word };
@@ -79,8 +77,7 @@ pub extern "C" fn archwend_set_addr(word: &mut u64, addr: u64) -> u64
 }
 
 // 1 and a present table entry's address, or 0 and 0.
-#[unsafe(no_mangle)]
-pub extern "C" fn archwend_gpa(word: u64, gpa: &mut u64) -> u64
+pub fn archwend_gpa(word: u64, gpa: &mut u64) -> u64
     ensures { ReadsAddr word result gpa.new }
 {
     let e = PageTableEntry { entry: word };
@@ -98,8 +95,7 @@ pub extern "C" fn archwend_gpa(word: u64, gpa: &mut u64) -> u64
 }
 
 // A leaf of a level gets another address: 0, or 20 and it stays.
-#[unsafe(no_mangle)]
-pub extern "C" fn archwend_set_leaf_addr(word: &mut u64, level: u64, addr: u64) -> u64
+pub fn archwend_set_leaf_addr(word: &mut u64, level: u64, addr: u64) -> u64
     ensures { SetsLeafAddr word.old level addr result word.new }
 {
     let old = PageTableEntry { entry: *word };
@@ -108,8 +104,7 @@ pub extern "C" fn archwend_set_leaf_addr(word: &mut u64, level: u64, addr: u64) 
 }
 
 // 1 and the address of a present leaf of a level, or 0 and 0, or 20 and 0.
-#[unsafe(no_mangle)]
-pub extern "C" fn archwend_leaf_gpa(word: u64, level: u64, found: &mut u64) -> u64
+pub fn archwend_leaf_gpa(word: u64, level: u64, found: &mut u64) -> u64
     ensures { ReadsLeafAddr word level result found.new }
 {
     let e = PageTableEntry { entry: word };
@@ -130,24 +125,21 @@ pub extern "C" fn archwend_leaf_gpa(word: u64, level: u64, found: &mut u64) -> u
     }
 }
 
-#[unsafe(no_mangle)]
-pub extern "C" fn archwend_is_present(word: u64) -> u64
+pub fn archwend_is_present(word: u64) -> u64
     ensures { FlagsPresent word result }
 {
     let e = PageTableEntry { entry: word };
     flag(e.is_present())
 }
 
-#[unsafe(no_mangle)]
-pub extern "C" fn archwend_is_large_page(word: u64) -> u64
+pub fn archwend_is_large_page(word: u64) -> u64
     ensures { FlagsLarge word result }
 {
     let e = PageTableEntry { entry: word };
     flag(e.is_large_page())
 }
 
-#[unsafe(no_mangle)]
-pub extern "C" fn archwend_clear(word: &mut u64)
+pub fn archwend_clear(word: &mut u64)
     ensures { ClearsWord word.new }
 {
     let old = PageTableEntry { entry: *word };
@@ -156,8 +148,7 @@ pub extern "C" fn archwend_clear(word: &mut u64)
 }
 
 // 0 and what one entry of the level maps, or 20 and 0.
-#[unsafe(no_mangle)]
-pub extern "C" fn archwend_mapping_size(level: u64, size: &mut u64) -> u64
+pub fn archwend_mapping_size(level: u64, size: &mut u64) -> u64
     ensures { SizesLevel level result size.new }
 {
     let answer = levels::mapping_size(level);
@@ -165,8 +156,7 @@ pub extern "C" fn archwend_mapping_size(level: u64, size: &mut u64) -> u64
 }
 
 // 0 and the index of an address at the level, or 20 and 0.
-#[unsafe(no_mangle)]
-pub extern "C" fn archwend_get_amd64_pte_index(gva: u64, level: u64, index: &mut u64) -> u64
+pub fn archwend_get_amd64_pte_index(gva: u64, level: u64, index: &mut u64) -> u64
     ensures { IndexesLevel gva level result index.new }
 {
     let answer = levels::get_amd64_pte_index(gva, level);
@@ -174,8 +164,7 @@ pub extern "C" fn archwend_get_amd64_pte_index(gva: u64, level: u64, index: &mut
 }
 
 // 1 and the number of the region's table that holds the address, or 0 and 0.
-#[unsafe(no_mangle)]
-pub extern "C" fn archwend_calculate_page_table_index(
+pub fn archwend_calculate_page_table_index(
     gpa: u64,
     size: u64,
     used: u64,
@@ -203,8 +192,7 @@ pub extern "C" fn archwend_calculate_page_table_index(
 }
 
 // How many single bits the mask has; they are left lowest first, zeros after them.
-#[unsafe(no_mangle)]
-pub extern "C" fn archwend_extract_individual_masks(mask: u32, bits: &mut [u32; 32]) -> u64
+pub fn archwend_extract_individual_masks(mask: u32, bits: &mut [u32; 32]) -> u64
     ensures { SplitsInto mask result bits.new }
 {
     let s = masks::extract_individual_masks(mask);

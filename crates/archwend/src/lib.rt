@@ -1,4 +1,4 @@
-// The functions that a loader links: C's calling convention, a slice being a pointer and a length.
+// The functions that a loader links; crates/archwend_c exports them to C.
 #![tactic(auto)]
 
 ghost use Rattle.std.specs.Prelude.{length};
@@ -15,8 +15,7 @@ const INTERFACE: u64 = 2;
 
 // Builds the relocated tables of the image into the output; report: number, used, moved, merged, reached, and the place's
 // address, level and offset.
-#[unsafe(no_mangle)]
-pub extern "C" fn archwend_build(
+pub fn archwend_build(
     image: &[u8],
     output: &mut [u8],
     scratch: &mut [u64],
@@ -55,8 +54,7 @@ pub extern "C" fn archwend_build(
 }
 
 // Loads one page into the image: 0, or the number of the refusal.
-#[unsafe(no_mangle)]
-pub extern "C" fn archwend_set_page_data(
+pub fn archwend_set_page_data(
     image: &mut [u8],
     gpa: u64,
     size: u64,
@@ -78,21 +76,14 @@ pub extern "C" fn archwend_set_page_data(
 
 // Holds two images against each other; list: four words for each entry that differs, table, entry, older value, newer value;
 // answer: number, count, and the first byte and the length of the first page that differs.
-#[unsafe(no_mangle)]
-pub extern "C" fn archwend_compare(
-    older: &[u8],
-    newer: &[u8],
-    list: &mut [u64],
-    answer: &mut [u64; 4],
-)
+pub fn archwend_compare(older: &[u8], newer: &[u8], list: &mut [u64], answer: &mut [u64; 4])
     ensures { ComparesImages older.now newer.now (length list.old) answer.new list.new }
 {
     compare::compare(older, newer, list, answer);
 }
 
 // What was built for another version asks for another name, and so does not link.
-#[unsafe(no_mangle)]
-pub extern "C" fn archwend_interface_2() -> u64
+pub fn archwend_interface_2() -> u64
     ensures { NamesInterface result }
 {
     INTERFACE

@@ -7,15 +7,17 @@ use archwend::*;
 use core::arch::{asm, global_asm};
 use core::fmt::Write;
 
-// What the library needs of a C library: memset, and what the compiler may call.
+// What the library needs of a C library: memset, and what the compiler may call. Nothing unwinds, but some linkers want the name that
+// would be called for it.
 global_asm!(
-    ".globl _start, memset, memcpy, memcmp",
+    ".globl _start, memset, memcpy, memcmp, rust_eh_personality",
     "_start: xor %ebp, %ebp; and $-16, %rsp; call run",
     "memset: mov %rdi, %r8; mov %esi, %eax; mov %rdx, %rcx; rep stosb; mov %r8, %rax; ret",
     "memcpy: mov %rdi, %rax; mov %rdx, %rcx; rep movsb; ret",
     "memcmp: xor %eax, %eax; mov %rdx, %rcx; test %rcx, %rcx; repe cmpsb; je 1f",
     "movzbl -1(%rdi), %eax; movzbl -1(%rsi), %ecx; sub %ecx, %eax",
     "1: ret",
+    "rust_eh_personality: ud2",
     options(att_syntax)
 );
 
