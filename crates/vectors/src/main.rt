@@ -5,7 +5,8 @@
 use archwend::entries;
 use build::CpuPagingState;
 use definitions::Region;
-use libc::STDOUT_FILENO;
+use std::io::Read;
+use std::{fs, io};
 
 const IMAGE: usize = 0x8000;
 
@@ -87,9 +88,9 @@ fn wide_mask(x: u32) -> u64 {
 
 // Counts one answer more, and whether it differs.
 fn count(same: bool, v: &mut [u64; REGISTERS]) {
-    v[ANSWERS] = std::num::wrapping_add_u64(v[ANSWERS], 1);
+    v[ANSWERS] = v[ANSWERS].wrapping_add(1);
     if !same {
-        v[DIFFERENT] = std::num::wrapping_add_u64(v[DIFFERENT], 1);
+        v[DIFFERENT] = v[DIFFERENT].wrapping_add(1);
     }
 }
 
@@ -361,52 +362,46 @@ fn feed_all(
     ranges: &mut [u64],
     v: &mut [u64; REGISTERS],
 ) {
-    let mut i: usize = 0;
-    while i < text.len() {
-        feed(text[i], image, output, scratch, ranges, v);
-        i += 1;
+    for c in text {
+        feed(*c, image, output, scratch, ranges, v);
     }
 }
 
 // Reads some of the file and feeds it; whether there may be more.
 fn some(
-    fd: i32,
+    file: &mut impl Read,
     image: &mut [u8],
     output: &mut [u8],
     scratch: &mut [u64],
     ranges: &mut [u64],
     v: &mut [u64; REGISTERS],
-) -> bool {
-    let mut text = io::buffer();
-    let n = io::read_full(fd, &mut text);
+) -> io::Result<bool> {
+    let mut text = [0u8; 4096];
+    let n = file.read(&mut text)?;
     feed_all(&text[..n], image, output, scratch, ranges, v);
-    n == 4096
+    Ok(n > 0)
 }
 
 // No file is longer than these turns.
-fn all(fd: i32, v: &mut [u64; REGISTERS]) {
+fn all(file: &mut impl Read, v: &mut [u64; REGISTERS]) -> io::Result<()> {
     let mut image = [0u8; IMAGE];
     let mut output = [0xa5u8; OUTPUT];
     let mut scratch = [7u64; 3000];
     let mut ranges = [0u64; 63];
-    let mut turns: u64 = 1000;
-    while turns > 0 && some(fd, &mut image, &mut output, &mut scratch, &mut ranges, v) {
-        turns -= 1;
+    for _ in 0..u64::MAX {
+        if !some(file, &mut image, &mut output, &mut scratch, &mut ranges, v)? {
+            break;
+        }
     }
+    Ok(())
 }
 
-fn main() {
+fn main(rt: HostRuntime) -> io::Result<()> {
     let mut v = [0u64; REGISTERS];
-    let fd = os::open_read(b"vectors");
-    if fd < 0 {
-        os::fail(b"vectors");
-        return;
-    }
-    all(fd, &mut v);
-    libc::close(fd);
-    io::write_all(STDOUT_FILENO, b"answers ");
-    io::print_decimal(STDOUT_FILENO, v[ANSWERS]);
-    io::write_all(STDOUT_FILENO, b" different ");
-    io::print_decimal(STDOUT_FILENO, v[DIFFERENT]);
-    io::write_all(STDOUT_FILENO, b"\n");
+    let mut file = match fs::open(&rt, "vectors") {
+        Ok(file) => file,
+        Err(error) => return eprintln!(rt; "vectors: {error}"),
+    };
+    all(&mut file, &mut v)?;
+    println!(rt; "answers {} different {}", v[ANSWERS], v[DIFFERENT])
 }
