@@ -10,7 +10,8 @@ use Rattle.compare_files.proofs.Text.{joins, puts_length}
 pub lines_append : (cs ds : List Change) → lines (cs ++ ds) ≡ lines cs ++ lines ds
 unfolding lines
 lines_append [] ds = refl
-lines_append (c ∷ cs) ds = ap (λ (xs : List ℕ). line c ++ xs) (lines_append cs ds) ∙ sym (append_assoc (line c) (lines cs) (lines ds))
+lines_append (c ∷ cs) ds =
+    ap (λ (xs : List ℕ). line c ++ xs) (lines_append cs ds) ∙ sym (append_assoc (line c) (lines cs) (lines ds))
 
 pub table_append : (t : ℕ) (cs ds : List Change) → in_table t (cs ++ ds) ≡ in_table t cs ++ in_table t ds
 unfolding in_table
@@ -62,7 +63,11 @@ lines_more : (t : ℕ) (ws : List ℕ) (j : ℕ) → lines_to t ws (j + 1) ≡ l
 unfolding lines in_table
 lines_more t ws j =
     let before = quadruples j ws in
-    rw (quadruples_more j ws, table_append t before (quadruple ws j ∷ []), lines_append (in_table t before) (in_table t (quadruple ws j ∷ [])))
+    rw (
+      quadruples_more j ws,
+      table_append t before (quadruple ws j ∷ []),
+      lines_append (in_table t before) (in_table t (quadruple ws j ∷ [])),
+    )
     (ap (λ (xs : List ℕ). lines_to t ws j ++ xs) (append-nil (line_at t ws j)))
 
 module _ (t count : ℕ) (ws d : List ℕ) where

@@ -20,7 +20,11 @@ changes_few : (older newer : Mem) (n k : ℕ) → length (changes_from n k older
 unfolding changes_from
 changes_few older newer zero k = omega arith
 changes_few older newer (suc n) k =
-    omega (arith, at_most_lem (eqb (older k) (newer k)) (change_at older newer k) (changes_from n (suc k) older newer), changes_few older newer n (suc k))
+    omega (
+      arith,
+      at_most_lem (eqb (older k) (newer k)) (change_at older newer k) (changes_from n (suc k) older newer),
+      changes_few older newer n (suc k),
+    )
 
 module _ (older newer : List ℕ) (o : length older ≡ 4096) (n : length newer ≡ 4096) where
   page_few : length (changes_of older newer) ≤ 512
@@ -31,7 +35,8 @@ module _ (older newer : List ℕ) (o : length older ≡ 4096) (n : length newer 
   unfolding comparable
   page_compared room r =
       ap (compared older newer) r
-      ∙ compare_listed (length older) (words_of older) (length newer) (words_of newer) 2048 (rw (o, n) refl) (omega (arith, page_few))
+      ∙ compare_listed (length older) (words_of older) (length newer) (words_of newer) 2048 (rw (o, n) refl)
+      (omega (arith, page_few))
 
   pub page_counted : {room : ℕ} {answer list part : List ℕ} → room ≡ 2048 → Compares older newer room answer list part
       → CountsPage older newer list (get_or answer 1 0)
@@ -73,7 +78,9 @@ unfolding in_table
 table_cond t true c cs = refl
 table_cond t false c cs = refl
 
-module _ (t : ℕ) (o n p q : Mem) (old : (k : ℕ) → k < 512 → p k ≡ o (512 * t + k)) (new : (k : ℕ) → k < 512 → q k ≡ n (512 * t + k)) where
+module _ (t : ℕ) (o n p q : Mem)
+    (old : (k : ℕ) → k < 512 → p k ≡ o (512 * t + k))
+    (new : (k : ℕ) → k < 512 → q k ≡ n (512 * t + k)) where
   table_changes : (m j : ℕ) → j + m ≤ 512 → in_table t (changes_from m j p q) ≡ changes_from m (512 * t + j) o n
   unfolding changes_from in_table
   table_changes zero j h = refl
@@ -101,7 +108,8 @@ module _ (older newer : List ℕ) where
   page_whole : (t : ℕ) → 4096 * t + 4096 ≤ length newer → in_table t (changes_of (page t older) (page t newer)) ≡ from 1 t
   unfolding changes
   page_whole t h =
-      let n : length (page t newer) ≡ 4096 = length-take-le 4096 (drop (4096 * t) newer) (omega (arith, length-drop (4096 * t) newer)) in
+      let n : length (page t newer) ≡ 4096 =
+      length-take-le 4096 (drop (4096 * t) newer) (omega (arith, length-drop (4096 * t) newer)) in
       rw n
       (table_changes t (words_of older) (words_of newer) (words_of (page t older)) (words_of (page t newer)) (page_word t older)
       (page_word t newer) 512 0 (omega arith)
@@ -131,7 +139,8 @@ module _ (older newer : List ℕ) where
   -- what the program prints, page by page, is the output of the whole images
   pub printed_by_pages : comparable (length older) (length newer) ≡ true
       → let m = length newer / 4096 in
-      count_line (pages_count m 0 older newer) ++ pages_lines m 0 older newer ≡ printed (length newer) (words_of older) (words_of newer)
+      count_line (pages_count m 0 older newer) ++ pages_lines m 0 older newer
+      ≡ printed (length newer) (words_of older) (words_of newer)
   unfolding printed changes
   printed_by_pages c =
       let m = length newer / 4096 in

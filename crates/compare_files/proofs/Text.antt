@@ -87,17 +87,21 @@ puts_byte e r v h =
       short = omega arith;
     }
 
-pub joins : {m n at r q : ℕ} {d s e t f : List ℕ} → at + m ≤ length d → Puts m d at s e r → Puts n e r t f q → Puts (m + n) d at (s ++ t) f q
+pub joins : {m n at r q : ℕ} {d s e t f : List ℕ} → at + m ≤ length d → Puts m d at s e r → Puts n e r t f q
+    → Puts (m + n) d at (s ++ t) f q
 joins {m} {n} {at} {r} {q} {d} {s} {e} {t} {f} h x y =
     record {
-      text = y.text ∙ ap₂ (λ (xs : List ℕ) (k : ℕ). paste xs k t (length t)) x.text x.next ∙ paste_twice d at s t (omega (arith, x.short));
+      text =
+          y.text ∙ ap₂ (λ (xs : List ℕ) (k : ℕ). paste xs k t (length t)) x.text x.next
+          ∙ paste_twice d at s t (omega (arith, x.short));
       next = omega (arith, x.next, y.next, length-append s t);
       short = omega (arith, x.short, y.short, length-append s t);
     }
 
 -- digits and a byte, put as they are spelled
-pub puts_field : {d e : List ℕ} {at r : ℕ} (b n k most end : ℕ) (xs : List ℕ) → 1 < b → IsDigitCount b 1 n k → xs ≡ last_digits b k n
-    → length xs < most → Puts (length xs + 1) d at (xs ++ end ∷ []) e r → Puts most d at (field b n end) e r
+pub puts_field : {d e : List ℕ} {at r : ℕ} (b n k most end : ℕ) (xs : List ℕ) → 1 < b → IsDigitCount b 1 n k
+    → xs ≡ last_digits b k n → length xs < most → Puts (length xs + 1) d at (xs ++ end ∷ []) e r
+    → Puts most d at (field b n end) e r
 unfolding field
 puts_field b n k most end xs h f s l p =
     rw (← spelled b n k xs h f s) (record { text = p.text; next = p.next; short = omega (arith, p.short) })

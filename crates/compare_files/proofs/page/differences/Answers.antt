@@ -1,5 +1,5 @@
--- `differences` meets its contract: nothing is put where nothing is to be listed; else the list has the changes, so the lines of its
--- quadruples are the page's. No loop.
+-- `differences` meets its contract: nothing is put where nothing is to be listed; else the list has the changes, so the lines of
+-- its quadruples are the page's. No loop.
 -- Assumes nothing.
 use Rattle.compare_files.proofs.Pages.{page_lines_lem}
 use Rattle.compare_files.proofs.page.differences.Goals as goal
