@@ -15,7 +15,6 @@ use job::{Job, Outcome};
 use line::Fault;
 use load::{LoadLine, PAGE_BYTES};
 use std::alloc::AllocError;
-use std::io;
 use std::rt::{Env, Files};
 
 const TEXT_MAX: usize = 262144;
@@ -55,7 +54,7 @@ fn lent(has_scratch: bool, most: usize) -> usize
     if has_scratch { most } else { 0 }
 }
 
-// Does the load that a line asks for, if it asks for one; a refusal is printed.
+// Does the load that a line asks for, if it asks for one; a refusal is printed. Where that can't be written the job goes on.
 fn load_line(
     out: &impl Print,
     line: &[u8],
@@ -63,15 +62,15 @@ fn load_line(
     page: &mut [u8],
     geometry: Geometry,
     r: Region,
-) -> io::Result<()> {
+) {
     let found = line::next_word(line, 0);
     let from = found.from;
     let to = found.to;
     if !check::same(&line[from..to], b"load") {
-        return Ok(());
+        return;
     }
     let LoadLine::Whole(load) = load::read(&line[to..], page) else {
-        return Ok(());
+        return;
     };
     let number = region::set_page_data(
         image,
@@ -81,9 +80,8 @@ fn load_line(
         files::front(page, load.length),
     );
     if number != 0 {
-        return reports::print_load(out, load.gpa, number);
+        let _ = reports::print_load(out, load.gpa, number);
     }
-    Ok(())
 }
 
 fn load_all(
@@ -93,14 +91,13 @@ fn load_all(
     page: &mut [u8],
     geometry: Geometry,
     r: Region,
-) -> io::Result<()> {
+) {
     let mut at: usize = 0;
     while at < text.len() {
         let end = line::find(text, at, b'\n');
-        load_line(out, &text[at..end], image, page, geometry, r)?;
+        load_line(out, &text[at..end], image, page, geometry, r);
         at = end + 1;
     }
-    Ok(())
 }
 
 // The job itself: its loads, then its build.
@@ -116,10 +113,7 @@ fn execute(
 ) {
     let r = job.region;
     let geometry = levels::geometry_of(job.cr4);
-    if let Err(error) = load_all(rt, text, image, page, geometry, r) {
-        files::fail(rt, "archwend: the report", error);
-        return;
-    }
+    load_all(rt, text, image, page, geometry, r);
     if !files::save(rt, 2, "run: IMAGE", image) {
         return;
     }

@@ -400,7 +400,10 @@ fn main(rt: HostRuntime) -> io::Result<()> {
     let mut v = [0u64; REGISTERS];
     let mut file = match fs::open(&rt, "vectors") {
         Ok(file) => file,
-        Err(error) => return eprintln!(rt; "vectors: {error}"),
+        Err(error) => {
+            files::fail(&rt, "vectors", error);
+            return Ok(());
+        }
     };
     all(&mut file, &mut v)?;
     println!(rt; "answers {} different {}", v[ANSWERS], v[DIFFERENT])
