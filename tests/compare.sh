@@ -156,6 +156,9 @@ wrong "an empty name" "compare: OLDER: $missing" '' image
 wrong "a long name" 'compare: NEWER: File name too long' image "$(printf 'x%.0s' {1..5000})"
 wrong "a folder as older file" 'compare: OLDER: Is a directory' folder image
 wrong "a folder as newer file" 'compare: NEWER: Is a directory' image folder
+cp image $'im\xffage'
+shows "a name that is not UTF-8" 'differences 0' $'im\xffage' image
+wrong "no file of such a name" "compare: NEWER: $missing" image $'no\xff'
 if [ "$(id -u)" != 0 ]; then
     cp image closed
     chmod 000 closed
