@@ -9,6 +9,7 @@ ghost use Rattle.compare.specs.Meaning.{Lists, Refuses, Inside, Accepts, Compare
 use definitions::refusals;
 
 // Whether images of these lengths can be held against each other.
+#[tactic(auto, using(std::proofs::lemmas::Bool::Decides::nat_tests), unfolding(definitions::specs::Compare::comparable))]
 pub fn lengths_valid(older: u64, newer: u64) -> bool
     ensures { result ≡ comparable older newer }
 {

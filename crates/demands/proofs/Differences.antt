@@ -111,7 +111,7 @@ past xs k h = words_at xs k ∙ number_past 8 xs (8 * k) h
 pub same_iff : (xs ys : List ℕ) (room : ℕ) → Bytes xs → Bytes ys → let d = compare (length xs) (words_of xs) (length ys) (words_of ys) room in
     d.number ≡ 0 → (d.count ≡ 0) ↔ (xs ≡ ys)
 same_iff xs ys room bx by z =
-    let lengths = ((accepted_iff (length xs) (words_of xs) (length ys) (words_of ys) room).0 z).0 in
+    let lengths = (accepted (length xs) (words_of xs) (length ys) (words_of ys) room z).0 in
     let nothing = nothing_iff (length xs) (words_of xs) (length ys) (words_of ys) room z in
     let words : ((k : ℕ) → k < length ys / 8 → words_of xs k ≡ words_of ys k) → words_of xs ≡ words_of ys =
     λ same. fun_ext λ k. elim (dec_le (length ys) (8 * k)) [

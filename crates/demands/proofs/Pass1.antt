@@ -28,5 +28,5 @@ pub mod Reached
 pub mod Result
 -- First: where pass 1 stops is the first entry in walk order at which something is wrong (first_halt)
 pub mod First
--- OneFirst: there is one first, with one number and place (first-one)
+-- OneFirst: there is one first, with one number and place (first_one)
 pub mod OneFirst

@@ -7,7 +7,7 @@ pub mod Leaf
 pub mod Write
 -- Link: a fresh table on the way
 pub mod Link
--- Insert: the leaf, from the root down (put-in)
+-- Insert: the leaf, from the root down (put_in)
 pub mod Insert
 -- All leaves.
 -- Growth: the tables taken are one for each place that is needed
