@@ -275,6 +275,23 @@ fn far_leaf(rt: &impl Print) -> io::Result<()> {
     build(rt, &image, 0x20_0000, 0x8000, five(ROOT_5))
 }
 
+fn five_levels_with_an_entry(rt: &impl Print) -> io::Result<()> {
+    with_entry_5(
+        rt,
+        "five levels, offset 1000000000000, 3.1 = 200023:",
+        0x1_0000_0000_0000,
+        TABLE_3 + 1,
+        0x20_0023,
+    )?;
+    with_entry_5(
+        rt,
+        "five levels, offset 200000, 3.511 = 107023:",
+        0x20_0000,
+        TABLE_3 + 511,
+        0x10_7023,
+    )
+}
+
 fn five_levels(rt: &impl Print) -> io::Result<()> {
     plain_5(rt, "five levels, offset 200000:", 0x20_0000, 0x8000)?;
     plain_5(
@@ -303,20 +320,7 @@ fn five_levels(rt: &impl Print) -> io::Result<()> {
         0x8000,
     )?;
     bit_seven(rt)?;
-    with_entry_5(
-        rt,
-        "five levels, offset 1000000000000, 3.1 = 200023:",
-        0x1_0000_0000_0000,
-        TABLE_3 + 1,
-        0x20_0023,
-    )?;
-    with_entry_5(
-        rt,
-        "five levels, offset 200000, 3.511 = 107023:",
-        0x20_0000,
-        TABLE_3 + 511,
-        0x10_7023,
-    )?;
+    five_levels_with_an_entry(rt)?;
     far_leaf(rt)
 }
 

@@ -1,7 +1,9 @@
 -- `pass1::visit_entry` and `pass1::walk_table` meet their contracts; see Invariants.antt. What holds of the entry that a turn of
--- `walk_table` reads is said once, of plain values; then come the goals, by what the task at the entry is.
+-- `walk_table` reads is said once, of plain values; then come the goals of both, those of `walk_table` by what the task at the entry
+-- is.
 -- Assumes nothing.
-use Rattle.pass1.proofs.Walking.{inner, lies_with, lies_low, at_hand, skip_visits, stored_visits, refused_visits, entry_at, begin, over, again, stops}
+use Rattle.pass1.proofs.Walking.{lies_down, inner, lies_with, lies_low, at_hand, skip_visits, stored_visits, refused_visits}
+use Rattle.pass1.proofs.Walking.{opened_held, visits_done, visits_down, entry_at, begin, over, again, stops}
 use Rattle.pass1.specs.Walks.{spot_in, Asked, AtHand, WalkFits}
 use Rattle.pass1.specs.declared.Plan.{Plan}
 use Rattle.pass1.specs.declared.Spot.{Spot}
@@ -41,6 +43,33 @@ module _ (b : ℕ) (xs ws : List ℕ) (p : Plan) (t l a : ℕ) (w : Walk) (pre :
       hand h =
           let lies = lies_with _ _ _ _ _ size pre.lies h in
           at_hand _ _ _ (words_of out) _ _ _ _ read (omega (arith, pre.table, asked.used, h)) pre.level size lies
+
+-- ---- the goals of visit_entry: what is opened, and the table that it points to, one level down
+pub visit_entry-walk_table-requires : goal.visit_entry-walk_table-requires
+visit_entry-walk_table-requires t c =
+    let pre = c.requires in
+    let fits = rw c.in-Down.is at c.open_table-opened.ensures.fits in
+    let level = pre.hand.level in
+    let used = pre.asked.used in (
+      omega (arith, c.decreases, fits.1),
+      record {
+        asked = record { plan = pre.asked.plan; list = pre.asked.list; used = omega arith };
+        table = fits.0;
+        level = omega arith;
+        lies = lies_down _ _ _ fits.1 pre.hand.lies;
+        runs = fits.2;
+        held = opened_held c.args.ranges.now _ _ _ _ _ pre.held _ _ c.open_table-opened.ensures;
+      },
+    )
+
+pub visit_entry-returns-in-Done : goal.visit_entry-returns-in-Done
+visit_entry-returns-in-Done t c =
+    visits_done _ _ _ _ _ _ c.requires.held _ _ c.open_table-opened.ensures c.in-Done.is
+
+pub visit_entry-returns-in-Down : goal.visit_entry-returns-in-Down
+visit_entry-returns-in-Down t c =
+    let fits = rw c.in-Down.is at c.open_table-opened.ensures.fits in
+    visits_down _ _ _ _ _ _ c.requires.held _ _ c.open_table-opened.ensures _ c.in-Down.is fits.1 _ _ _ c.walk_table.ensures
 
 -- ---- the goals of walk_table
 pub walk_table-loop-i-init : goal.walk_table-loop-i-init
