@@ -9,7 +9,7 @@
  * 512 GiB and of level 4 256 TiB. The root table's entries have level 3, with five levels (cr4 bit 0x1000) level 4.
  *
  * For firmware and kernels, as tests/interface.sh measures it: besides memset nothing is undefined in the archive. A call takes
- * less than 8 KiB of stack; a walk down five levels takes 4.7. The code uses SSE2 registers: they have to be switched on, and saved
+ * less than 8 KiB of stack; a walk down five levels takes 4.4. The code uses SSE2 registers: they have to be switched on, and saved
  * where a call interrupts their user. archwend_extract_individual_masks uses the red zone, the 128 bytes below the stack pointer:
  * while it runs no interrupt may be taken on its stack. All others leave it alone. Relocations are relative to the code
  * (R_X86_64_PC32, R_X86_64_PLT32), so it runs at any address. No data is written but what is lent: any number of threads may call

@@ -20,7 +20,7 @@ declared() { # FILE NAME
     case $1 in
     *.rt) awk -v name="${2##*::}" -v owner="$(case $2 in *::*) echo "${2%%::*}" ;; esac)" '
         { sub(/\/\/.*/, "") }
-        /^impl / { inside = $2 }
+        /^impl/ { inside = $0; sub(/^impl(<[^>]*>)? /, "", inside); sub(/[^A-Za-z0-9_].*/, "", inside) }
         /^}/ { inside = "" }
         $0 ~ "(^| )(fn|struct|enum|const) " name "([^A-Za-z0-9_]|$)" && inside == owner { found = 1 }
         END { exit !found }' "$1" ;;

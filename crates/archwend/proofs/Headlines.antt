@@ -13,7 +13,7 @@ use lib.ListN.{length, get_or, replicate, length-replicate}
 use Rattle.definitions.specs.Words.{slot, words_of, bytes_of}
 use Rattle.definitions.specs.Geometry.{root_height, span}
 use Rattle.definitions.specs.Entry.{leaf_flags, translate}
-use Rattle.definitions.specs.Inputs.{Job, nowhere, Built}
+use Rattle.definitions.specs.Inputs.{Job, nowhere, Report, Built}
 use Rattle.definitions.specs.Ranges.{kind, moved_region, table_at, used_tables}
 use Rattle.definitions.specs.Build.{five_bit, geometry_of, root, plan_of, build, refused, job_of, output_bytes}
 use Rattle.definitions.specs.Load.{Loaded, loaded, load}
@@ -26,7 +26,6 @@ use Rattle.definitions.specs.declared.paging.Geometry.{Geometry}
 use Rattle.definitions.specs.declared.Moved.{Moved}
 use Rattle.definitions.specs.declared.Place.{Place}
 use Rattle.definitions.specs.declared.Region.{Region}
-use Rattle.definitions.specs.declared.Report.{Report}
 use Rattle.definitions.proofs.Words.{Bytes}
 use Rattle.definitions.proofs.Entry.{leaf_flags_bits}
 use Rattle.definitions.proofs.Cr4.{with_cr4, five_walked, four_walked, by_geometry, one_bit}

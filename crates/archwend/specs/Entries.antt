@@ -1,7 +1,6 @@
 -- What the exported operations on an entry, a level, a region's tables and a mask promise, in the definitions' terms.
 -- Assumes nothing.
-use Rattle.std.specs.Prelude.{◌≡◌, Bool, cond, List, ℕ, eqb}
-use Rattle.std.proofs.Math.Option.{Option, none, some}
+use Rattle.std.specs.Prelude.{◌≡◌, Bool, cond, List, ℕ, eqb, Option, None, Some}
 use Rattle.definitions.specs.Entry.{Answer, present, large, set_table, set_leaf, set_address, read_address, set_leaf_address, Reading, read_leaf_address, mapped_size, level_index}
 use Rattle.definitions.specs.Ranges.{table_in}
 use Rattle.definitions.specs.declared.Region.{Region}
@@ -20,13 +19,13 @@ flag b = cond b 1 0
 
 -- how many values there are
 abbrev pub counted : Option ℕ → ℕ
-counted none = 0
-counted (some x) = 1
+counted None = 0
+counted (Some x) = 1
 
 -- the value, or 0
 abbrev pub or_zero : Option ℕ → ℕ
-or_zero none = 0
-or_zero (some x) = x
+or_zero None = 0
+or_zero (Some x) = x
 
 -- 1 is returned and the value left, or 0 and 0
 pub record Finds (o : Option ℕ) (n word : ℕ) : Type 0 where

@@ -1,12 +1,11 @@
 -- What the exported functions promise, in the definitions' terms.
 -- Assumes nothing.
 use Rattle.std.specs.Prelude.{◌≡◌, List, [], ◌∷◌, ℕ, replicate}
-use Rattle.definitions.specs.Inputs.{Job}
+use Rattle.definitions.specs.Inputs.{Job, Report}
 use Rattle.definitions.specs.Build.{geometry_of, build, output_bytes}
 use Rattle.definitions.specs.Load.{load}
 use Rattle.compare.specs.Meaning.{compared, answer_words}
 use Rattle.definitions.specs.declared.Region.{Region}
-use Rattle.definitions.specs.declared.Report.{Report}
 
 abbrev pub region_at : ℕ → ℕ → ℕ → Region
 region_at gpa size used = record { gpa = gpa; size = size; used = used }

@@ -1,4 +1,4 @@
--- The output that holds the image and then zeros, from what copying and clearing bytes give.
+-- The output that holds the image and then zeros, from what copying and filling bytes give.
 -- Assumes nothing.
 use mathlib.Core.Path.{◌≡◌, refl, ap, ap₂, ◌∙◌}
 use mathlib.Core.List.{List, ◌++◌}
@@ -7,12 +7,10 @@ use native.Mathlib.Nat.{zero-add}
 use native.Mathlib.Omega.{arith}
 use lib.ListN.{length, take, drop, replicate, length-append, length-drop, length-replicate}
 use lib.Seq.{paste, take-length, take_at, drop_at}
-use Rattle.definitions.specs.Words.{cleared_from}
 
--- d with the image s copied to its front, and then cleared from there on
-pub image_then_zeros : (d s mid bytes : List ℕ) → length s ≤ length d → mid ≡ paste d 0 s (length s) → bytes ≡ cleared_from (length s) mid
+-- d with the image s copied to its front, and then zeros from there on
+pub image_then_zeros : (d s mid bytes : List ℕ) → length s ≤ length d → mid ≡ paste d 0 s (length s) → bytes ≡ take (length s) mid ++ replicate (length (drop (length s) mid)) 0
     → bytes ≡ s ++ replicate (length d - length s) 0
-unfolding cleared_from
 image_then_zeros d s mid bytes fits e f =
     let front : mid ≡ s ++ drop (length s) d = e ∙ ap₂ (λ (xs : List ℕ) (k : ℕ). xs ++ drop k d) (take-length s) (zero-add (length s)) in
     f

@@ -21,36 +21,43 @@ use Rattle.definitions.proofs.LeafLevels.{Low, low_first}
 use Rattle.definitions.proofs.Checks.{start_state}
 use Rattle.definitions.proofs.Cr4.{geometry_sound}
 use Rattle.definitions.proofs.Build.{build_first, build_second, build_accepted}
+use Rattle.definitions.specs.declared.Counts.{Counts}
 use Rattle.definitions.specs.declared.Refusal.{Refusal}
 use Rattle.definitions.specs.declared.Region.{Region}
-use Rattle.definitions.specs.declared.Report.{Report}
 use Rattle.definitions.specs.declared.paging.Geometry.{Geometry}
 use Rattle.ranges.specs.Lists.{Listed}
 use Rattle.ranges.proofs.Scan.{listed}
 use Rattle.moved.specs.View.{nth, leaves_of}
 use Rattle.moved.proofs.Leaves.{gather_in, leaves_length}
 use Rattle.reached.specs.Held.{set_of}
-use Rattle.pass1.specs.Walks.{view, outcome, Runs, Asked, FirstWalked}
+use Rattle.pass1.specs.Walks.{view, outcome, LeavesHeld, Asked, FirstWalked}
 use Rattle.pass1.specs.Walks as P
-use Rattle.pass1.proofs.Moving.{outcome_go, outcome_stop}
 use Rattle.pass1.specs.declared.Plan.{Plan}
 use Rattle.pass1.specs.declared.Walk.{Walk}
 use Rattle.pass2.specs.Meaning.{fill_of, begun, FewMore, SecondFits, Filled}
 use Rattle.pass2.specs.Meaning as S
 use Rattle.pass2.proofs.All.{of_job}
 use Rattle.pass2.specs.declared.Fill.{Fill}
-use Rattle.pass2.specs.declared.Outcome.{Outcome}
-use Rattle.pass2.specs.declared.Outcome.TheVariants.{Go, Stop}
-use Rattle.build.specs.declared.Ended.TheVariants.{Accepted, Stopped}
-use Rattle.build.specs.Meaning.{counted, Ready, Passes}
-
--- what the code calls the passes with
-abbrev pub plan_with : Geometry → Region → Region → ℕ → Plan
-plan_with g old new o = record { geometry = g; old = old; new = new; offset = o }
+use Rattle.std.specs.Prelude.{Result, Ok, Err}
+use Rattle.build.specs.Meaning.{counted, report_of, Ready, Passes}
 
 -- ---- what the checks say in numbers
-module _ {j : I.Job} {out xs ws : List ℕ} {g : Geometry} {r : Region} {o t : ℕ} (ready : Ready j out xs ws g r o t)
-    {new : Region} (moves : new ≡ moved_region r o) where
+module _ {j : I.Job} {out xs ws : List ℕ} {p : Plan} {t : ℕ} (ready : Ready j out xs ws p t) where
+  abbrev g : Geometry
+  g = p.geometry
+
+  abbrev r : Region
+  r = p.old
+
+  abbrev new : Region
+  new = p.new
+
+  abbrev o : ℕ
+  o = p.offset
+
+  moves : new ≡ moved_region r o
+  moves = ready.moves
+
   sound : SoundGeometry g
   sound = subst SoundGeometry ready.geometry (geometry_sound j.cr4)
 
@@ -99,7 +106,7 @@ module _ {j : I.Job} {out xs ws : List ℕ} {g : Geometry} {r : Region} {o t : �
       let z : j.region.size ≡ r.size = ap (λ (z : Region). z.size) ready.region in
       omega (arith, ready.output)
 
-  pub asked : Asked (length out) ws (plan_with g r new o)
+  pub asked : Asked (length out) ws p
   asked = record {
     plan = record { geometry = sound; old = old_sound; new = new_sound; moved = moves; whole = shifts.0 };
     list = list;
@@ -114,7 +121,7 @@ module _ {j : I.Job} {out xs ws : List ℕ} {g : Geometry} {r : Region} {o t : �
 
   -- ---- pass 1
 
-  plan_is : P.plan_of (plan_with g r new o) ws (length xs) ≡ plan_of j
+  plan_is : P.plan_of p ws (length xs) ≡ plan_of j
   unfolding plan_of
   plan_is i = record {
     geometry = sym ready.geometry i;
@@ -125,18 +132,18 @@ module _ {j : I.Job} {out xs ws : List ℕ} {g : Geometry} {r : Region} {o t : �
     room = ready.room i / 3;
   }
 
-  module _ {m : Mem} {ys : List ℕ} {w : Walk} (first : FirstWalked ws (plan_with g r new o) t (words_of out) (length xs) m ys w) where
-    first_is : outcome m ys w ≡ first_pass j (start_state j)
+  module _ {m : Mem} {ys : List ℕ} {a : Result Walk Refusal} (first : FirstWalked ws p t (words_of out) (length xs) m ys a) where
+    first_is : outcome m ys a ≡ first_pass j (start_state j)
     unfolding first_pass
     first_is = first.step ∙ (λ i. walk_table (plan_is i) (root_height (sym ready.geometry i)) 0 (ready.root i)
         (record { mem = ready.image i; reached = mark no_tables (ready.root i); moved = [] }))
 
-    pub ends_first : (Runs w → ⊥) → Passes j m (Stopped w.refusal)
-    ends_first h = build_first j ready.good _ _ (sym first_is ∙ outcome_stop m ys w h)
+    pub ends_first : {x : Refusal} → a ≡ Err x → Passes j m (Err x)
+    ends_first e = build_first j ready.good _ _ (sym first_is ∙ ap (outcome m ys) e)
 
-    module _ (runs : Runs w) where
+    module _ {w : Walk} (ok : a ≡ Ok w) where
       goes : first_pass j (start_state j) ≡ go (view m ys w)
-      goes = sym first_is ∙ outcome_go m ys w runs
+      goes = sym first_is ∙ ap (outcome m ys) ok
 
       low : Low (root_height g) (view m ys w)
       low = subst (λ (h : Geometry). Low (root_height h) (view m ys w)) ready.geometry (subst (After (Low (height j))) goes (low_first j))
@@ -148,7 +155,7 @@ module _ {j : I.Job} {out xs ws : List ℕ} {g : Geometry} {r : Region} {o t : �
           record {
             holds = record { geometry = sound; region = new_sound; room = omega (arith, room) };
             table = omega (arith, root_used, old_sound.fits);
-            held = first.held;
+            held = subst (LeavesHeld ys) ok first.held;
             levels = λ k h. low (nth ys w.store.front w.store.back k)
                 (subst (λ (z : ℕ). Memᴰ (nth ys w.store.front w.store.back z) (leaves_of ys w.store)) (zero-add k)
                 (gather_in (w.store.front + w.store.back) (λ i. nth ys w.store.front w.store.back i) 0 k h));
@@ -156,7 +163,7 @@ module _ {j : I.Job} {out xs ws : List ℕ} {g : Geometry} {r : Region} {o t : �
 
       -- ---- pass 2
 
-      module _ {mid zs : List ℕ} (same : words_of mid ≡ m) {f : Outcome} (filled : Filled ys g new t w.store mid zs f) where
+      module _ {mid zs : List ℕ} (same : words_of mid ≡ m) {f : Result Fill Refusal} (filled : Filled ys g new t w.store mid zs f) where
         second_is : S.outcome (words_of zs) f ≡ second_pass j (view m ys w)
         unfolding plan_of
         second_is =
@@ -164,22 +171,22 @@ module _ {j : I.Job} {out xs ws : List ℕ} {g : Geometry} {r : Region} {o t : �
             (subst (λ (k : ℕ). Filled ys (geometry j) new k w.store mid zs f) ready.root
             (subst (λ (h : Geometry). Filled ys h new t w.store mid zs f) (sym ready.geometry) filled))
 
-        pub ends_second : {x : Refusal} → f ≡ Stop x → Passes j (words_of zs) (Stopped x)
+        pub ends_second : {x : Refusal} → f ≡ Err x → Passes j (words_of zs) (Err x)
         ends_second e = build_second j ready.good (view m ys w) goes _ _ (sym second_is ∙ ap (S.outcome (words_of zs)) e)
 
         -- the new used length fits
-        pub used_fits : {k : Fill} → f ≡ Go k → 4096 * k.next ≤ 512 * 4096
+        pub used_fits : {k : Fill} → f ≡ Ok k → 4096 * k.next ≤ 512 * 4096
         used_fits {k} q =
             let kept = subst (FewMore new (w.store.front + w.store.back) (begun new)) q filled.kept in
             omega (arith, kept.0, new_sound.most)
 
-        pub ends_go : {k : Fill} → f ≡ Go k → {p : Report} → p ≡ counted w.reached w.store k → Passes j (words_of zs) (Accepted p)
+        pub ends_go : {k : Fill} → f ≡ Ok k → {c : Counts} → c ≡ counted w k → Passes j (words_of zs) (Ok c)
         unfolding accepted
         ends_go {k} q ep =
             let e = build_accepted j ready.good (view m ys w) goes (fill_of (words_of zs) k) (sym second_is ∙ ap (S.outcome (words_of zs)) q) in
-            (ep ∙ report ∙ sym (ap (λ (b : I.Built). b.report) e), sym (ap (λ (b : I.Built). b.output) e))
+            (ap (λ (c : Counts). report_of (Ok c)) ep ∙ report ∙ sym (ap (λ (b : I.Built). b.report) e), sym (ap (λ (b : I.Built). b.output) e))
           where
-            report : counted w.reached w.store k ≡ (accepted (view m ys w) (fill_of (words_of zs) k)).report
+            report : report_of (Ok (counted w k)) ≡ (accepted (view m ys w) (fill_of (words_of zs) k)).report
             report i = record {
               number = 0;
               used = 4096 * k.next;

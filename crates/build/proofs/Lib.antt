@@ -1,3 +1,5 @@
+-- the checks before pass 1
+mod Checking
 -- the output that holds the image and then zeros
 mod Buffers
 -- from the checks through both passes

@@ -1,19 +1,16 @@
-// The build: the checks, both passes, and the report.
+// The build: the checks, both passes, and what is counted.
 #![tactic(auto)]
 
 ghost use Rattle.std.specs.Prelude.{◌≡◌, ℕ, ◌+◌, ◌*◌, ◌^◌, ◌<◌, length};
 ghost use Rattle.definitions.specs.Inputs as I;
 ghost use Rattle.definitions.specs.Words.{words_of};
 ghost use Rattle.definitions.specs.Build.{geometry_of, job_of};
-ghost use Rattle.build.specs.Meaning.{counted, Starts, Ready, Passes, Refuses, Builds};
+ghost use Rattle.build.specs.Meaning.{counted, Starts, Ready, Passes, Builds};
 
-use definitions::paging::Geometry;
-use definitions::{Place, Refusal, Region, Report, refusals};
-use moved::Store;
-use pass1::Plan;
-use pass2::{Fill, Outcome};
-use reached::Reached;
-use region::TableIndex;
+use definitions::refusals::Error;
+use definitions::{Counts, Refusal, Region};
+use pass1::{Plan, Walk};
+use pass2::{Fill, Site};
 
 // The registers that a build looks at.
 #[derive(Clone, Copy)]
@@ -22,72 +19,55 @@ pub struct CpuPagingState {
     pub cr4: u64,
 }
 
-// What the checks before pass 1 give: the root's table, or the first refusal that applies.
-#[derive(Clone, Copy)]
-pub enum Start {
-    Root(usize),
-    Refused(Refusal),
-}
-
-// How the passes end.
-#[derive(Clone, Copy)]
-pub enum Ended {
-    Accepted(Report),
-    Stopped(Refusal),
-}
-
-// The checks before pass 1, in order.
+// The checks before pass 1, in order: the root's table, or the first refusal that applies.
 fn check_inputs(
     image: &[u8],
     output_length: usize,
     ranges: &[u64],
-    geometry: Geometry,
-    r: Region,
+    plan: Plan,
     cpu: CpuPagingState,
-    offset: u64,
-) -> Start
-    requires { geometry ≡ geometry_of cpu.cr4 }
+) -> Result<usize, Refusal>
+    requires { plan.geometry ≡ geometry_of cpu.cr4 }
     ensures { (n : ℕ)
-        → Starts (job_of r cpu.cr3 cpu.cr4 offset ranges.now image.now output_length n) result }
+        → Starts (job_of plan.old cpu.cr3 cpu.cr4 plan.offset ranges.now image.now output_length n) result }
 {
+    let geometry = plan.geometry;
+    let r = plan.old;
     if !region::valid(geometry, r) {
-        return Start::Refused(Refusal::plain(refusals::REGION));
+        return Err(Error::Region.into());
     }
     if image.len() as u64 != r.used {
-        return Start::Refused(Refusal::plain(refusals::LENGTHS));
+        return Err(Error::Lengths.into());
     }
     if (output_length as u64) < r.size {
-        return Start::Refused(Refusal::plain(refusals::LENGTHS));
+        return Err(Error::Lengths.into());
     }
-    let found = region::calculate_page_table_index(r, cpu.cr3);
-    let TableIndex::At(table) = found else {
-        return Start::Refused(Refusal::plain(refusals::CR3));
+    let Some(root) = region::calculate_page_table_index(r, cpu.cr3) else {
+        return Err(Error::Cr3.into());
     };
-    if !region::offset_valid(geometry, r, offset) {
-        return Start::Refused(Refusal::plain(refusals::TABLE_OFFSET));
+    if !region::offset_valid(geometry, r, plan.offset) {
+        return Err(Error::TableOffset.into());
     }
     if !ranges::list_valid(ranges, geometry, r) {
-        return Start::Refused(Refusal::plain(refusals::RANGES));
+        return Err(Error::Ranges.into());
     }
-    if r.used / 4096 <= table as u64 {
-        return Start::Refused(Refusal::at(refusals::FREE_TAIL, 0, geometry.top + 1));
+    if r.used / 4096 <= root as u64 {
+        return Err(Refusal::at(Error::FreeTail, 0, geometry.top + 1));
     }
-    Start::Root(table)
+    Ok(root)
 }
 
-// The report of a build that both passes let through.
-fn accept(reached: Reached, store: Store, fill: Fill) -> Report
-    requires { (4096 * fill.next < 2 ^ 64) × (store.front + store.back < 2 ^ 64) }
-    ensures { result ≡ counted reached store fill }
+// What both passes counted.
+fn count(walked: Walk, fill: Fill) -> Counts
+    requires { (4096 * fill.next < 2 ^ 64) × (walked.store.front + walked.store.back < 2 ^ 64) }
+    ensures { result ≡ counted walked fill }
 {
-    let place = Place::none();
-    Report {
-        number: 0,
+    let store = walked.store;
+    Counts {
         used: 4096 * fill.next,
         moved: (store.front + store.back) as u64,
         merged: fill.merged,
-        reached: reached.count(),
-        place: place,
+        reached: walked.reached.count(),
     }
 }
 
@@ -96,55 +76,53 @@ fn passes(
     out: &mut [u8],
     scratch: &mut [u64],
     ranges: &[u64],
-    geometry: Geometry,
-    r: Region,
-    offset: u64,
+    plan: Plan,
     root: usize,
-) -> Ended
-    requires { (j : I.Job) × Ready j out.old scratch.old ranges.now geometry r offset root }
+) -> Result<Counts, Refusal>
+    requires { (j : I.Job) × Ready j out.old scratch.old ranges.now plan root }
     ensures { (j : I.Job)
-        → Ready j out.old scratch.old ranges.now geometry r offset root
+        → Ready j out.old scratch.old ranges.now plan root
         → Passes j (words_of out.new) result }
 {
-    let new = region::moved_by(r, offset);
-    let plan = Plan {
-        geometry: geometry,
-        old: r,
-        new: new,
-        offset: offset,
+    let walked = pass1::first_pass(out, scratch, ranges, plan, root)?;
+    let site = Site {
+        geometry: plan.geometry,
+        region: plan.new,
+        root,
     };
-    let walked = pass1::first_pass(out, scratch, ranges, plan, root);
-    let refusal = walked.refusal;
-    if refusal.number != 0 {
-        return Ended::Stopped(refusal);
-    }
-    let store = walked.store;
-    let reached = walked.reached;
-    let filled = pass2::second_pass(out, scratch, geometry, new, root, store);
-    match filled {
-        Outcome::Stop(refusal) => Ended::Stopped(refusal),
-        Outcome::Go(fill) => Ended::Accepted(accept(reached, store, fill)),
-    }
+    let fill = pass2::second_pass(out, scratch, site, walked.store)?;
+    Ok(count(walked, fill))
 }
 
-// A refusal: both buffers are zeroed.
-fn refuse(out: &mut [u8], scratch: &mut [u64], refusal: Refusal) -> Report
-    ensures { Refuses refusal result out.old scratch.old out.new scratch.new }
+// The checks and the passes: on an error what the passes left.
+fn relocate(
+    image: &[u8],
+    out: &mut [u8],
+    scratch: &mut [u64],
+    ranges: &[u64],
+    r: Region,
+    cpu: CpuPagingState,
+    table_offset: u64,
+) -> Result<Counts, Refusal>
+    ensures { Passes
+        (job_of r cpu.cr3 cpu.cr4 table_offset ranges.now image.now
+        (length out.old) (length scratch.old))
+        (words_of out.new) result }
 {
-    words::clear(out, 0);
-    words::clear_words(scratch, 0);
-    let place = refusal.place;
-    Report {
-        number: refusal.number,
-        used: 0,
-        moved: 0,
-        merged: 0,
-        reached: 0,
-        place: place,
-    }
+    let plan = Plan {
+        geometry: levels::geometry_of(cpu.cr4),
+        old: r,
+        new: region::moved_by(r, table_offset),
+        offset: table_offset,
+    };
+    let root = check_inputs(image, out.len(), ranges, plan, cpu)?;
+    words::copy(out, 0, image);
+    words::fill_from(out, image.len(), 0);
+    passes(out, scratch, ranges, plan, root)
 }
 
-// Builds the relocated tables of the image into the output.
+// Builds the relocated tables of the image into the output. A refused build leaves it zeroed, and the scratch is zeroed always. Each
+// caller has the buffers, the region, the registers and the offset apart: a struct of the last three would be no plainer.
 pub fn build(
     image: &[u8],
     out: &mut [u8],
@@ -153,27 +131,17 @@ pub fn build(
     r: Region,
     cpu: CpuPagingState,
     table_offset: u64,
-) -> Report
+) -> Result<Counts, Refusal>
     ensures { Builds
         (job_of r cpu.cr3 cpu.cr4 table_offset ranges.now image.now
         (length out.old) (length scratch.old))
         result out.new scratch.new }
 {
-    let geometry = levels::geometry_of(cpu.cr4);
-    let start = check_inputs(image, out.len(), ranges, geometry, r, cpu, table_offset);
-    match start {
-        Start::Refused(refusal) => refuse(out, scratch, refusal),
-        Start::Root(root) => {
-            words::copy(out, 0, image);
-            words::clear(out, image.len());
-            let ended = passes(out, scratch, ranges, geometry, r, table_offset, root);
-            match ended {
-                Ended::Stopped(refusal) => refuse(out, scratch, refusal),
-                Ended::Accepted(report) => {
-                    words::clear_words(scratch, 0);
-                    report
-                }
-            }
-        }
+    let built = relocate(image, out, scratch, ranges, r, cpu, table_offset);
+    words::fill_from(scratch, 0, 0);
+    if built.is_ok() {
+        return built;
     }
+    words::fill_from(out, 0, 0);
+    built
 }

@@ -3,8 +3,14 @@
 use mathlib.Core.Path.{◌≡◌, sym, ◌∙◌}
 use mathlib.Core.List.{List}
 use Prim.Native.Nat.{ℕ}
-use Rattle.compare.specs.Meaning.{Compares}
+use Rattle.std.specs.Prelude.{Result}
+use Rattle.definitions.specs.Refusals.{number_in}
+use Rattle.definitions.specs.declared.refusals.Error.{Error}
+use Rattle.compare.specs.declared.Differences.{Differences}
+use Rattle.compare.specs.Meaning.{count_in, start_in, part_in, Compares}
 
-module _ (older newer : List ℕ) (room : ℕ) (w w' xs xs' p p' : List ℕ) where
-  pub one_comparison : Compares older newer room w xs p → Compares older newer room w' xs' p' → (w ≡ w') × (xs ≡ xs') × (p ≡ p')
-  one_comparison a b = (a.answered ∙ sym b.answered, a.listed ∙ sym b.listed, a.handed ∙ sym b.handed)
+module _ (older newer : List ℕ) (room : ℕ) (r s : Result Differences Error) (xs ys : List ℕ) where
+  pub one_comparison : Compares older newer room r xs → Compares older newer room s ys
+      → (number_in r ≡ number_in s) × (count_in r ≡ count_in s) × (start_in r ≡ start_in s) × (part_in r ≡ part_in s) × (xs ≡ ys)
+  one_comparison a b =
+      (a.numbered ∙ sym b.numbered, a.counted ∙ sym b.counted, a.started ∙ sym b.started, a.handed ∙ sym b.handed, a.listed ∙ sym b.listed)

@@ -1,25 +1,18 @@
 -- How a comparison ends: the part that the count and the list name, and the promise from what the steps give.
 -- Assumes nothing.
 use mathlib.Core.Path.{◌≡◌, refl, sym, ap, ap₂, ◌∙◌}
-use mathlib.Core.Bool.{true, false}
 use mathlib.Core.List.{List, [], ◌∷◌, ◌++◌}
-use Prim.Native.Nat.{ℕ, zero, suc, ◌-◌, ◌*◌, ◌/◌, ◌≤◌, ◌<◌}
+use Prim.Native.Nat.{ℕ, ◌-◌, ◌*◌, ◌/◌, ◌≤◌}
 use native.Mathlib.Omega.{arith}
-use lib.ListN.{length, get_or, replicate, drop, length-take, length-drop}
-use Rattle.definitions.specs.Words.{words_of, cleared_from}
-use Rattle.definitions.specs.Compare.{Change, changes, change_words, page_start, page_length, comparable, Compared, not_compared, listed}
-use Rattle.definitions.proofs.Clearing.{cleared_length}
-use Rattle.definitions.proofs.Compare.{page_inside, words_length, comparable_iff, compare_refused, compare_short, compare_listed}
-use Rattle.compare.specs.declared.Listing.TheVariants.{Whole}
-use Rattle.compare.specs.Meaning.{compared, changes_of, Lists, answer_words, part_of, Refuses, first_byte, byte_count, Inside, Accepts, Compares}
-
-pub first_byte_lem : (n : ℕ) (list : List ℕ) → ¬ (n ≡ 0) → first_byte n list ≡ 4096 * get_or list 0 0
-first_byte_lem zero list h = absurd (h refl)
-first_byte_lem (suc n) list h = refl
-
-pub byte_count_lem : (n : ℕ) → ¬ (n ≡ 0) → byte_count n ≡ 4096
-byte_count_lem zero h = absurd (h refl)
-byte_count_lem (suc n) h = refl
+use lib.ListN.{length, replicate, take, drop, length-take, length-drop, length-append, length-replicate}
+use Rattle.definitions.specs.Words.{words_of}
+use Rattle.definitions.specs.Compare.{Change, changes, change_words, page_start, page_length, Compared, not_compared, listed}
+use Rattle.definitions.proofs.Compare.{page_inside, words_length, comparable_iff, compare_listed}
+use Rattle.std.specs.Prelude.{Result, Ok, Err}
+use Rattle.definitions.specs.Refusals.{number_of, number_in}
+use Rattle.definitions.specs.declared.refusals.Error.{Error}
+use Rattle.compare.specs.declared.Differences.{Differences}
+use Rattle.compare.specs.Meaning.{compared, changes_of, Lists, count_in, start_in, part_in, part_of, first_byte, byte_count, Inside, Accepts, Compares}
 
 -- ---- the list's first quadruple is the first change
 module _ (zs : List ℕ) where
@@ -39,63 +32,66 @@ module _ (older newer : List ℕ) (room : ℕ) where
   cs = changes_of older newer
 
   -- from a comparison that is known
-  promise : (c : Compared) {answer list part : List ℕ} → compared older newer room ≡ c → answer ≡ answer_words c → list ≡ c.list
-      → part ≡ part_of newer c → Compares older newer room answer list part
-  promise c e a l p =
-      record { answered = a ∙ ap answer_words (sym e); listed = l ∙ ap (λ (d : Compared). d.list) (sym e); handed = p ∙ ap (part_of newer) (sym e) }
+  promise : (c : Compared) {answer : Result Differences Error} {list : List ℕ} → compared older newer room ≡ c → number_in answer ≡ c.number
+      → count_in answer ≡ c.count → start_in answer ≡ c.start → part_in answer ≡ part_of newer c → list ≡ c.list
+      → Compares older newer room answer list
+  promise c q n k s p l =
+      let e = sym q in
+      record {
+        numbered = n ∙ ap (λ (d : Compared). d.number) e;
+        counted = k ∙ ap (λ (d : Compared). d.count) e;
+        started = s ∙ ap (λ (d : Compared). d.start) e;
+        handed = p ∙ ap (part_of newer) e;
+        listed = l ∙ ap (λ (d : Compared). d.list) e;
+      }
 
-  module _ {answer list part : List ℕ} where
-    pub not_comparable : comparable (length older) (length newer) ≡ false → Refuses 34 room answer list part → Compares older newer room answer list part
-    unfolding not_compared
-    not_comparable e r = promise (not_compared 34 room) (compare_refused _ _ _ _ _ e) r.answered r.listed r.handed
+  pub refused : {e : Error} (list : List ℕ) {after : List ℕ} → Lists older newer room list (Err e) → after ≡ replicate (length list) 0
+      → Compares older newer room (Err e) after
+  unfolding not_compared
+  refused {e} list l c = promise (not_compared (number_of e) room) l.0 refl refl refl refl (c ∙ ap (λ (n : ℕ). replicate n 0) l.1)
 
-    pub no_room : {k : ℕ} → comparable (length older) (length newer) ≡ true → room < 4 * length cs → k ≡ room
-        → Refuses 15 k answer list part → Compares older newer room answer list part
-    unfolding not_compared
-    no_room e h l r =
-        promise (not_compared 15 room) (compare_short _ _ _ _ _ e h) r.answered
-        (r.listed ∙ ap (λ (n : ℕ). replicate n 0) l) r.handed
-
-  -- the list as it was filled, and cleared after that
-  module _ (n : ℕ) (list : List ℕ) (ok : comparable (length older) (length newer) ≡ true) (l : Lists older newer room list (Whole n)) where
+  -- the list as it was filled, and zeros after that
+  module _ (n : ℕ) (list : List ℕ) (l : Lists older newer room list (Ok n)) where
     fits : 4 * length cs ≤ room
     fits =
         let t = length-take (4 * n) list in
-        let w = ap length l.2 ∙ words_length cs in
-        omega (arith, l.0, l.1)
+        let w = ap length l.3 ∙ words_length cs in
+        omega (arith, l.1, l.2)
 
     pub enough : 4 * n ≤ room
-    enough = omega (arith, fits, l.0)
+    enough = omega (arith, fits, l.1)
 
     abbrev zs : List ℕ
     zs = replicate (room - 4 * length cs) 0
 
-    filled : cleared_from (4 * n) list ≡ change_words cs ++ zs
-    unfolding cleared_from
-    filled =
-        let d : length (drop (4 * n) list) ≡ room - 4 * length cs = length-drop (4 * n) list ∙ omega (arith, l.0, l.1) in
-        ap₂ (λ (ws : List ℕ) (k : ℕ). ws ++ replicate k 0) l.2 d
+    abbrev full : List ℕ
+    full = take (4 * n) list ++ replicate (length (drop (4 * n) list)) 0
 
-    start : first_byte n (cleared_from (4 * n) list) ≡ page_start cs
-    start = ap₂ first_byte l.0 filled ∙ start_of zs cs
+    filled : full ≡ change_words cs ++ zs
+    filled =
+        let d : length (drop (4 * n) list) ≡ room - 4 * length cs = length-drop (4 * n) list ∙ omega (arith, l.1, l.2) in
+        ap₂ (λ (ws : List ℕ) (k : ℕ). ws ++ replicate k 0) l.3 d
+
+    start : first_byte n full ≡ page_start cs
+    start = ap₂ first_byte l.1 filled ∙ start_of zs cs
 
     size : byte_count n ≡ page_length cs
-    size = ap byte_count l.0 ∙ length_of cs
+    size = ap byte_count l.1 ∙ length_of cs
 
-    pub inside : (after : List ℕ) → after ≡ cleared_from (4 * n) list → Inside newer after n
+    pub inside : (after : List ℕ) → after ≡ full → Inside newer after n
     unfolding changes
     inside after e =
-        let w = (comparable_iff _ _).0 ok in
+        let w = (comparable_iff _ _).0 l.0 in
         let p = page_inside (words_of older) (words_of newer) (length newer) w.whole (length newer / 8) 0 (omega arith) in
-        let c = ap length e ∙ cleared_length (4 * n) list in
+        let c : length after ≡ room =
+        ap length (e ∙ filled) ∙ length-append (change_words cs) zs
+        ∙ omega (arith, words_length cs, length-replicate {A = ℕ} (room - 4 * length cs) 0, fits) in
         let s = ap (first_byte n) e ∙ start in
-        (omega (arith, c, enough, l.1), omega (arith, p, s, size))
+        (omega (arith, c, enough), omega (arith, p, s, size))
 
-    pub whole : {after answer part : List ℕ} → after ≡ cleared_from (4 * n) list → Accepts newer after n answer part
-        → Compares older newer room answer after part
+    pub whole : {after : List ℕ} {d : Differences} → after ≡ full → Accepts newer after n d → Compares older newer room (Ok d) after
     unfolding listed
     whole e a =
         let s = ap (first_byte n) e ∙ start in
-        promise (listed room cs) (compare_listed _ _ _ _ _ ok fits)
-        (a.answered ∙ rw (s, size) (ap (λ (k : ℕ). 0 ∷ k ∷ page_start cs ∷ page_length cs ∷ []) l.0))
-        (e ∙ filled) (a.handed ∙ rw (s, size) refl)
+        promise (listed room cs) (compare_listed _ _ _ _ _ l.0 fits) refl
+        (a.counted ∙ l.1) (a.started ∙ s) (a.handed ∙ rw (s, size) refl) (e ∙ filled)

@@ -1,10 +1,13 @@
 -- Two pages held against each other, and the pages of two images one after the other.
 -- Assumes nothing.
-use Rattle.std.proofs.Common.{◌≡◌, ℕ, zero, suc, ◌+◌, ◌-◌, ◌*◌, ◌/◌, ◌%◌, ◌<◌, ◌≤◌, Bool, true, false, cond, eqb, List, [], ◌∷◌, ◌++◌, length, get_or, take, drop, replicate, sym, refl, ap, ◌∙◌, ap₂, add-zero, add-suc, arith, length-append, length-drop, length-take-le, get_or-drop, get_or-take}
+use Rattle.std.proofs.Common.{◌≡◌, ℕ, zero, suc, ◌+◌, ◌-◌, ◌*◌, ◌/◌, ◌%◌, ◌<◌, ◌≤◌, Bool, true, false, cond, eqb, List, [], ◌∷◌, ◌++◌, length, take, drop, replicate, sym, refl, ap, ◌∙◌, ap₂, add-zero, add-suc, arith, length-append, length-drop, length-take-le, get_or-drop, get_or-take}
+use Rattle.std.specs.Prelude.{Result}
 use Rattle.definitions.specs.Words.{Mem, number, words_of}
 use Rattle.definitions.specs.Compare.{Change, change_at, changes_from, changes, comparable, listed}
 use Rattle.definitions.proofs.Compare.{changes_split, comparable_iff, compare_listed}
-use Rattle.compare.specs.Meaning.{changes_of, compared, Compares}
+use Rattle.compare.specs.Meaning.{changes_of, compared, count_in, Compares}
+use Rattle.compare.specs.declared.Differences.{Differences}
+use Rattle.definitions.specs.declared.refusals.Error.{Error}
 use Rattle.compare_files.specs.Text.{lines, count_line, printed, quadruples, as_of, in_table, page_lines, page, pages_count, pages_lines}
 use Rattle.compare_files.specs.Meaning.{CountsPage}
 use Rattle.compare_files.proofs.Lines.{lines_append, quadruples_words}
@@ -38,12 +41,12 @@ module _ (older newer : List ℕ) (o : length older ≡ 4096) (n : length newer 
       ∙ compare_listed (length older) (words_of older) (length newer) (words_of newer) 2048 (rw (o, n) refl)
       (omega (arith, page_few))
 
-  pub page_counted : {room : ℕ} {answer list part : List ℕ} → room ≡ 2048 → Compares older newer room answer list part
-      → CountsPage older newer list (get_or answer 1 0)
+  pub page_counted : {room : ℕ} {answer : Result Differences Error} {list : List ℕ} → room ≡ 2048
+      → Compares older newer room answer list → CountsPage older newer list (count_in answer)
   unfolding listed
   page_counted {room} r c =
       let both = page_compared room r in
-      let e = ap (λ (xs : List ℕ). get_or xs 1 0) c.answered ∙ ap (λ x. x.count) both in
+      let e = c.counted ∙ ap (λ x. x.count) both in
       record {
         counted = e;
         few = omega (arith, e, page_few);

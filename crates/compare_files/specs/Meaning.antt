@@ -1,15 +1,11 @@
 -- What the functions promise: bytes put into a buffer, the differences of two pages, and what they add to a reading.
 -- Assumes nothing.
-use Rattle.std.specs.Prelude.{◌≡◌, ℕ, ◌+◌, ◌-◌, ◌*◌, ◌≤◌, Bool, cond, List, [], ◌++◌, length, replicate}
+use Rattle.std.specs.Prelude.{◌≡◌, ℕ, ◌+◌, ◌-◌, ◌*◌, ◌≤◌, Bool, cond, List, [], ◌++◌, length, replicate, Option, None, Some}
 use Rattle.std.proofs.Math.Seq.{paste}
 use Rattle.definitions.specs.Compare.{change_words}
 use Rattle.compare.specs.Meaning.{changes_of}
 use Rattle.compare_files.specs.declared.page.Page.{Page}
 use Rattle.compare_files.specs.declared.Reading.{Reading}
-use Rattle.compare_files.specs.declared.Outcome.{Outcome}
-use Rattle.compare_files.specs.declared.Outcome.TheVariants.{Read, Failed}
-use Rattle.compare_files.specs.declared.Pair.{Pair}
-use Rattle.compare_files.specs.declared.Pair.TheVariants.{Bytes, Broken}
 use Rattle.compare_files.specs.Text.{page_lines}
 
 -- a buffer d becomes e: from place `at` on it has a text s of at most `most` bytes, and r is the place after that
@@ -29,14 +25,9 @@ pub record GivesPage (is_listing : Bool) (older newer : List ℕ) (t : ℕ) (lis
   pub counts : CountsPage older newer list p.count
   pub puts : Puts (76 * p.count) d 0 (cond is_listing (page_lines t older newer) []) e p.length
 
--- no more than a page of each file is read
-abbrev pub Within : Pair → Type 0
-Within (Bytes m n) = (m ≤ 4096) × (n ≤ 4096)
-Within Broken = Unit
-
--- a reading with two pages held against each other
-abbrev pub HoldsPage : Reading → List ℕ → List ℕ → Outcome → Type 0
-HoldsPage r older newer (Read s) =
+-- a reading with two pages held against each other, where no write failed
+abbrev pub HoldsPage : Reading → List ℕ → List ℕ → Option Reading → Type 0
+HoldsPage r older newer (Some s) =
     (s.older ≡ r.older) × (s.newer ≡ r.newer) × (s.count ≡ r.count + length (changes_of older newer))
     × (length (changes_of older newer) ≤ 512)
-HoldsPage r older newer Failed = Unit
+HoldsPage r older newer None = Unit

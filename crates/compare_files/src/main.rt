@@ -4,13 +4,11 @@
 
 mod page;
 
-ghost use Rattle.std.specs.Prelude.{◌+◌, ◌^◌, ◌<◌, ◌≤◌};
-ghost use Rattle.files.specs.Meaning.{bytes_read};
-ghost use Rattle.compare_files.specs.Meaning.{Within, HoldsPage};
+ghost use Rattle.std.specs.Prelude.{◌+◌, ◌^◌, ◌<◌, ◌≤◌, IfSome};
+ghost use Rattle.compare_files.specs.Meaning.{HoldsPage};
 
-use definitions::refusals;
-use files::Filled;
-use page::{PAGE, TEXT, WORDS};
+use definitions::refusals::Error;
+use page::{Lines, PAGE, Pages, TEXT, WORDS};
 use std::io;
 use std::io::Read;
 use std::rt::{Env, Files};
@@ -22,14 +20,14 @@ const PAGES: u64 = 513;
 const COUNT: usize = 33;
 
 // Two sums over words: of the words, and of what the first sum was after each, so that their order counts too.
-#[derive(Clone, Copy)]
+#[derive(Clone, Copy, PartialEq, Eq, Default)]
 struct Sums {
     plain: u64,
     running: u64,
 }
 
 // What a reading found: the bytes of each file, how many entries differ, and the sums over both.
-#[derive(Clone, Copy)]
+#[derive(Clone, Copy, PartialEq, Eq, Default)]
 struct Reading {
     older: u64,
     newer: u64,
@@ -37,65 +35,38 @@ struct Reading {
     sums: Sums,
 }
 
-// How a reading went; what went wrong is said already.
-#[derive(Clone, Copy)]
-enum Outcome {
-    Read(Reading),
-    Failed,
-}
-
-// How many bytes of a page of each file were read.
-#[derive(Clone, Copy)]
-enum Pair {
-    Bytes(usize, usize),
-    Broken,
-}
-
-fn read_page(rt: &impl Eprint, file: &mut impl Read, what: &str, page: &mut [u8; PAGE]) -> Filled
-    ensures { bytes_read result ≤ 4096 }
-{
-    files::fill(rt, file, what, page)
-}
-
+// Reads a page of each file: how many bytes they are. What goes wrong is said on standard error, here and below.
 fn read_pair(
     rt: &impl Eprint,
     older_file: &mut impl Read,
     newer_file: &mut impl Read,
-    older: &mut [u8; PAGE],
-    newer: &mut [u8; PAGE],
-) -> Pair
-    ensures { Within result }
+    pages: &mut Pages,
+) -> Option<(usize, usize)>
+    ensures { IfSome result (λ p. (p.0 ≤ 4096) × (p.1 ≤ 4096)) }
 {
-    let Filled::Bytes(m) = read_page(rt, older_file, "compare: OLDER", older) else {
-        return Pair::Broken;
-    };
-    let Filled::Bytes(n) = read_page(rt, newer_file, "compare: NEWER", newer) else {
-        return Pair::Broken;
-    };
-    Pair::Bytes(m, n)
+    let m = files::fill(rt, older_file, "compare: OLDER", &mut pages.older)?;
+    let n = files::fill(rt, newer_file, "compare: NEWER", &mut pages.newer)?;
+    Some((m, n))
 }
 
 // The sums with a page's words added.
-fn add_words(sums: Sums, page: &[u8]) -> Sums {
-    let mut plain = sums.plain;
-    let mut running = sums.running;
-    for k in 0..page.len() / 8 {
-        plain = plain.wrapping_add(words::read_word(page, k));
-        running = running.wrapping_add(plain);
+fn add_words(mut sums: Sums, page: &[u8; PAGE]) -> Sums {
+    for word in page.as_chunks::<8>().0 {
+        sums.plain = sums.plain.wrapping_add(u64::from_le_bytes(*word));
+        sums.running = sums.running.wrapping_add(sums.plain);
     }
-    Sums {
-        plain: plain,
-        running: running,
-    }
+    sums
 }
 
-// Whether standard output takes it; what goes wrong is said on standard error.
-fn put(rt: &(impl Print + Eprint), bytes: &[u8]) -> bool {
-    if let Err(error) = rt.write_all(bytes) {
-        files::fail(rt, "compare: the differences", error);
-        return false;
+// Writes to standard output.
+fn put(rt: &(impl Print + Eprint), bytes: &[u8]) -> Option<()> {
+    match rt.write_all(bytes) {
+        Ok(()) => Some(()),
+        Err(error) => {
+            files::fail(rt, "compare: the differences", error);
+            None
+        }
     }
-    true
 }
 
 // Two pages more: their differences are counted, and printed where they are to be listed.
@@ -103,28 +74,20 @@ fn hold(
     rt: &(impl Print + Eprint),
     reading: Reading,
     is_listing: bool,
-    older: &[u8; PAGE],
-    newer: &[u8; PAGE],
-    list: &mut [u64; WORDS],
+    pages: &Pages,
     table: u64,
-    out: &mut [u8; TEXT],
-) -> Outcome
+    lines: &mut Lines,
+) -> Option<Reading>
     requires { reading.count + 512 < 2 ^ 64 }
-    ensures { HoldsPage reading older.now newer.now result }
+    ensures { HoldsPage reading pages.now.older pages.now.newer result }
 {
-    let page = page::differences(is_listing, older, newer, list, table, out);
-    let length = page.length;
-    if !put(rt, files::front(out, length)) {
-        return Outcome::Failed;
-    }
-    let sums = add_words(add_words(reading.sums, older), newer);
-    let next = Reading {
-        older: reading.older,
-        newer: reading.newer,
+    let page = page::differences(is_listing, pages, table, lines);
+    put(rt, files::front(&lines.text, page.length))?;
+    Some(Reading {
         count: reading.count + page.count as u64,
-        sums: sums,
-    };
-    Outcome::Read(next)
+        sums: add_words(add_words(reading.sums, &pages.older), &pages.newer),
+        ..reading
+    })
 }
 
 // Ends at the first page that is not whole in both files: how long both are is known then, or that they can't be compared.
@@ -133,91 +96,35 @@ fn read_pages(
     older_file: &mut impl Read,
     newer_file: &mut impl Read,
     is_listing: bool,
-    older: &mut [u8; PAGE],
-    newer: &mut [u8; PAGE],
-    list: &mut [u64; WORDS],
-    out: &mut [u8; TEXT],
-) -> Outcome {
-    let mut reading = Reading {
-        older: 0,
-        newer: 0,
-        count: 0,
-        sums: Sums {
-            plain: 0,
-            running: 0,
-        },
+) -> Option<Reading> {
+    let mut pages = Pages {
+        older: [0; PAGE],
+        newer: [0; PAGE],
     };
+    let mut lines = Lines {
+        list: [0; WORDS],
+        text: [0; TEXT],
+    };
+    let mut reading = Reading::default();
     for table in 0..PAGES {
-        let Pair::Bytes(m, n) = read_pair(rt, older_file, newer_file, older, newer) else {
-            return Outcome::Failed;
-        };
+        let (m, n) = read_pair(rt, older_file, newer_file, &mut pages)?;
         reading.older += m as u64;
         reading.newer += n as u64;
-        if m < PAGE {
-            return Outcome::Read(reading);
+        if m < PAGE || n < PAGE {
+            break;
         }
-        if n < PAGE {
-            return Outcome::Read(reading);
-        }
-        let Outcome::Read(next) = hold(rt, reading, is_listing, older, newer, list, table, out)
-        else {
-            return Outcome::Failed;
-        };
-        reading = next;
+        reading = hold(rt, reading, is_listing, &pages, table, &mut lines)?;
     }
-    Outcome::Read(reading)
+    Some(reading)
 }
 
-fn read_files(rt: &(impl Env + Files + Print + Eprint), is_listing: bool) -> Outcome {
-    let Some(mut older_file) = files::open(rt, 1, "compare: OLDER") else {
-        return Outcome::Failed;
-    };
-    let Some(mut newer_file) = files::open(rt, 2, "compare: NEWER") else {
-        return Outcome::Failed;
-    };
-    let mut older = [0u8; PAGE];
-    let mut newer = [0u8; PAGE];
-    let mut list = [0u64; WORDS];
-    let mut out = [0u8; TEXT];
-    read_pages(
-        rt,
-        &mut older_file,
-        &mut newer_file,
-        is_listing,
-        &mut older,
-        &mut newer,
-        &mut list,
-        &mut out,
-    )
+fn read_files(rt: &(impl Env + Files + Print + Eprint), is_listing: bool) -> Option<Reading> {
+    let mut older_file = files::open(rt, 1, "compare: OLDER")?;
+    let mut newer_file = files::open(rt, 2, "compare: NEWER")?;
+    read_pages(rt, &mut older_file, &mut newer_file, is_listing)
 }
 
-// Whether two readings found the same.
-fn same(a: Reading, b: Reading) -> bool {
-    if a.older != b.older {
-        return false;
-    }
-    if a.newer != b.newer {
-        return false;
-    }
-    if a.count != b.count {
-        return false;
-    }
-    let s = a.sums;
-    let t = b.sums;
-    if s.plain != t.plain {
-        return false;
-    }
-    s.running == t.running
-}
-
-// The number of a refusal, and its sentence.
-fn refuse(out: &impl Print, number: u64) -> io::Result<()> {
-    print!(out; "compare: {number} ")?;
-    sentences::write(out, number)?;
-    out.print("\n")
-}
-
-fn print_count(rt: &(impl Print + Eprint), count: u64) -> bool {
+fn print_count(rt: &(impl Print + Eprint), count: u64) -> Option<()> {
     let mut out = [0u8; COUNT];
     let n = page::put_count(&mut out, count);
     put(rt, files::front(&out, n))
@@ -228,20 +135,20 @@ fn main(rt: HostRuntime) -> io::Result<()> {
         files::complain(&rt, "usage", "compare OLDER NEWER");
         return Ok(());
     }
-    let Outcome::Read(first) = read_files(&rt, false) else {
+    let Some(first) = read_files(&rt, false) else {
         return Ok(());
     };
     if !compare::lengths_valid(first.older, first.newer) {
-        return refuse(&rt.stderr(), refusals::NOT_COMPARABLE);
+        let error = Error::NotComparable;
+        return eprintln!(&rt; "compare: {} {error}", error.number());
     }
-    if !print_count(&rt, first.count) {
+    if print_count(&rt, first.count).is_none() {
         return Ok(());
     }
-    let Outcome::Read(second) = read_files(&rt, true) else {
-        return Ok(());
-    };
-    if !same(first, second) {
-        files::complain(&rt, "compare", "a file changed while it was read");
+    if let Some(second) = read_files(&rt, true) {
+        if first != second {
+            files::complain(&rt, "compare", "a file changed while it was read");
+        }
     }
     Ok(())
 }

@@ -11,7 +11,22 @@ pub const WORDS: usize = 2048;
 // room for 76 bytes for each entry of a page
 pub const TEXT: usize = 65536;
 
-// What a page gives: how many of its entries differ, and how many bytes their lines have.
+// A page of each image.
+#[derive(Drop)]
+pub struct Pages {
+    pub older: [u8; PAGE],
+    pub newer: [u8; PAGE],
+}
+
+// The differences of two pages: as words, and as lines.
+#[derive(Drop)]
+pub struct Lines {
+    pub list: [u64; WORDS],
+    pub text: [u8; TEXT],
+}
+
+// What a page gives: how many of its entries differ, and how many bytes their lines have. (A length and no part of the text, since
+// the promise GivesPage says what the whole buffer is afterwards.)
 #[derive(Clone, Copy)]
 pub struct Page {
     pub count: usize,
@@ -39,7 +54,7 @@ fn put_decimal(out: &mut [u8], at: usize, n: u64, end: u8) -> usize
     put_text(out, at, &text[..k], end)
 }
 
-// A number in hexadecimal, and a byte after it.
+// A number in hexadecimal, and a byte after it. (Not one with the above: io spells the bases by two functions, of two lengths.)
 fn put_hex(out: &mut [u8], at: usize, n: u64, end: u8) -> usize
     requires { at + 17 ≤ length out.old }
     ensures { Puts 17 out.old at (field 16 n end) out.new result }
@@ -67,47 +82,34 @@ fn put_lines(out: &mut [u8], list: &[u64], count: usize, table: u64) -> usize
     ensures { Puts (76 * count) out.old 0 (lines (in_table table (quadruples count list.now))) out.new result }
 {
     let mut at: usize = 0;
-    let mut j: usize = 0;
-    while j < count {
+    for j in 0..count {
         let k = 4 * j;
         at = put_line(out, at, table, list[k + 1], list[k + 2], list[k + 3]);
-        j += 1;
     }
     at
 }
 
 // Holds two pages against each other: how many entries differ. The list has them, four words each, then zeros.
-fn count_page(older: &[u8; PAGE], newer: &[u8; PAGE], list: &mut [u64; WORDS]) -> usize
-    ensures { CountsPage older.now newer.now list.new result }
+fn count_page(pages: &Pages, list: &mut [u64; WORDS]) -> usize
+    ensures { CountsPage pages.now.older pages.now.newer list.new result }
 {
-    let mut answer = [0u64; 4];
-    compare::compare(older, newer, list, &mut answer);
-    answer[1] as usize
+    match compare::compare(&pages.older, &pages.newer, list) {
+        Ok(differences) => differences.count,
+        Err(_) => 0,
+    }
 }
 
-// The same, and where they are to be listed their lines, as entries of a table.
-pub(crate) fn differences(
-    is_listing: bool,
-    older: &[u8; PAGE],
-    newer: &[u8; PAGE],
-    list: &mut [u64; WORDS],
-    table: u64,
-    out: &mut [u8; TEXT],
-) -> Page
-    ensures { GivesPage is_listing older.now newer.now table list.new out.old out.new result }
+// The same, and where they are to be listed their lines, as entries of a table. (A flag, since the promise GivesPage speaks of it.)
+pub(crate) fn differences(is_listing: bool, pages: &Pages, table: u64, lines: &mut Lines) -> Page
+    ensures { GivesPage is_listing pages.now.older pages.now.newer table lines.new.list lines.old.text lines.new.text result }
 {
-    let count = count_page(older, newer, list);
-    if !is_listing {
-        return Page {
-            count: count,
-            length: 0,
-        };
-    }
-    let length = put_lines(out, list, count, table);
-    Page {
-        count: count,
-        length: length,
-    }
+    let count = count_page(pages, &mut lines.list);
+    let length = if is_listing {
+        put_lines(&mut lines.text, &lines.list, count, table)
+    } else {
+        0
+    };
+    Page { count, length }
 }
 
 // The line with the count.

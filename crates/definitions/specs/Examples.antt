@@ -1,7 +1,6 @@
 -- The starred examples of the specification, section 12, as a list, and the test that one holds.
 -- Assumes nothing.
-use Rattle.std.specs.Prelude.{Bool, true, false, ◌&&◌, List, [], ◌∷◌, ℕ, zero, suc, ◌+◌, ◌-◌, ◌*◌, ◌/◌, ◌^◌, eqb}
-use Rattle.std.proofs.Math.Option.{Option, none, some}
+use Rattle.std.specs.Prelude.{Bool, true, false, ◌&&◌, List, [], ◌∷◌, ℕ, zero, suc, ◌+◌, ◌-◌, ◌*◌, ◌/◌, ◌^◌, eqb, Option, None, Some}
 use Rattle.definitions.specs.Words.{Mem, blank, put, slot}
 use Rattle.definitions.specs.Geometry.{indices}
 use Rattle.definitions.specs.Entry.{Answer, answer_if, translate, set_leaf_address, Reading, read_leaf_address}
@@ -45,10 +44,10 @@ unfoldable pub same_answer : Answer → Answer → Bool
 same_answer a b = eqb a.number b.number && eqb a.word b.word
 
 unfoldable pub same_found : Option ℕ → Option ℕ → Bool
-same_found none none = true
-same_found none (some y) = false
-same_found (some x) none = false
-same_found (some x) (some y) = eqb x y
+same_found None None = true
+same_found None (Some y) = false
+same_found (Some x) None = false
+same_found (Some x) (Some y) = eqb x y
 
 unfoldable pub same_reading : Reading → Reading → Bool
 unfolding same_found
@@ -237,8 +236,8 @@ examples =
     ∷ sets_leaf 0 0x3010E3 0x400000 (answer_if true 0x4000E3 0)
     ∷ sets_leaf 1 0x3010E3 0x401000 (answer_if false 0 0x3010E3)
     ∷ sets_leaf 3 0x3010E3 0x8000000000 (answer_if false 0 0x3010E3)
-    ∷ reads_leaf 1 0x3010E3 (record { number = 0; found = some 0x200000 })
-    ∷ reads_leaf 3 0 (record { number = 20; found = none })
+    ∷ reads_leaf 1 0x3010E3 (record { number = 0; found = Some 0x200000 })
+    ∷ reads_leaf 3 0 (record { number = 20; found = None })
     ∷ compares 0x3000 base 0x3000 moved_base 9 (finds 2 (2 ∷ 1 ∷ 0x2000E3 ∷ 0 ∷ 2 ∷ 2 ∷ 0 ∷ 0x4000E3 ∷ 0 ∷ []) 0x2000)
     ∷ compares 0x3000 base 0x3000 moved_base 7 (not_compared 15 7)
     ∷ compares 0x3000 base 0x4000 moved_base 7 (not_compared 34 7)

@@ -4,16 +4,20 @@
 #![tactic(auto)]
 
 use build::CpuPagingState;
-use definitions::{Region, Report};
+use definitions::{Counts, Refusal, Region};
 use std::io;
 
 const GPA: u64 = 0x10_0000;
 
+// The bytes of the base's tables, and of the tables with a level-4 root.
 const USED: usize = 0x3000;
 
 const USED_5: usize = 0x4000;
 
+// Those of most regions.
 const MOST: usize = 0x8000;
+
+const SIZE: u64 = 0x8000;
 
 // The first words of the base's second and third table, and of the level-4 root.
 const TABLE_1: usize = 512;
@@ -27,356 +31,215 @@ const ROOT_5: u64 = 0x10_3000;
 // The word of the base's one leaf.
 const MAPPED: usize = TABLE_2 + 1;
 
-// What an example changes of the base: the size of the region, and one word of the image.
+// A guest: the bytes of its tables, and its registers.
 #[derive(Clone, Copy)]
-struct Variant {
-    size: u64,
-    slot: usize,
-    word: u64,
+struct Guest<const N: usize> {
+    image: [u8; N],
+    cpu: CpuPagingState,
 }
 
-fn text(rt: &impl Print, s: &str) -> io::Result<()> {
-    rt.print(s)
-}
-
-// A label, and a number in hexadecimal.
-fn number(rt: &impl Print, label: &str, x: u64) -> io::Result<()> {
-    print!(rt; "{label}{x:x}")
-}
-
-// The word k, as table.entry value, if the build changed it.
-fn change(rt: &impl Print, image: &[u8], out: &[u8], k: usize) -> io::Result<()> {
-    let new = tables::word_at(out, k);
-    if tables::word_at(image, k) != new {
-        print!(rt; " | {:x}.{} {new:x}", k / 512, k % 512)?;
+impl<const N: usize> Guest<N> {
+    // The tables of the base.
+    fn base(cpu: CpuPagingState) -> Guest<N> {
+        let image = [0u8; N];
+        let empty = Guest { image, cpu };
+        empty
+            .with(0, 0x10_1023)
+            .with(TABLE_1, 0x10_2023)
+            .with(MAPPED, 0x20_00e3)
     }
-    Ok(())
+
+    // With another entry.
+    fn with(mut self, slot: usize, word: u64) -> Guest<N> {
+        tables::put(&mut self.image, slot, word);
+        self
+    }
+
+    // Prints what the build with one range makes of it. The buffers are lent full of other bytes.
+    fn build(&self, rt: &impl Print, label: &str, range: [u64; 3], size: u64) -> io::Result<()> {
+        let mut out = [0xa5u8; MOST];
+        let mut scratch = [7u64; 4];
+        let region = Region {
+            gpa: GPA,
+            size,
+            used: N as u64,
+        };
+        let built = build::build(
+            &self.image,
+            &mut out,
+            &mut scratch,
+            &range,
+            region,
+            self.cpu,
+            0,
+        );
+        print!(rt; "{label}")?;
+        match built {
+            Ok(counts) => {
+                accepted(rt, counts)?;
+                changes(rt, &self.image, &out)?;
+            }
+            Err(refusal) => {
+                refused(rt, refusal)?;
+                if !tables::blank(&out) {
+                    print!(rt; " output not zero")?;
+                }
+            }
+        }
+        if !scratch.iter().all(|&word| word == 0) {
+            print!(rt; " scratch not zero")?;
+        }
+        println!(rt; "")
+    }
+
+    // With an offset of the range over the base's leaf.
+    fn moved(&self, rt: &impl Print, label: &str, offset: u64) -> io::Result<()> {
+        self.build(rt, label, [0x20_0000, 0x3f_ffff, offset], SIZE)
+    }
 }
 
-// The entries that the build changed.
+fn accepted(rt: &impl Print, counts: Counts) -> io::Result<()> {
+    print!(rt;
+        " number 0 used {:x} moved {:x} merged {:x} reached {:x} at 0 level 0 offset 0",
+        counts.used, counts.moved, counts.merged, counts.reached
+    )
+}
+
+fn refused(rt: &impl Print, refusal: Refusal) -> io::Result<()> {
+    let Refusal { error, place } = refusal;
+    print!(rt;
+        " number {} used 0 moved 0 merged 0 reached 0 at {:x} level {:x} offset {:x}",
+        error.number(),
+        place.address,
+        place.level,
+        place.offset
+    )
+}
+
+// The entries that the build changed, as table.entry value.
 fn changes(rt: &impl Print, image: &[u8], out: &[u8]) -> io::Result<()> {
     for k in 0..MOST / 8 {
-        change(rt, image, out, k)?;
+        let new = tables::word_at(out, k);
+        if tables::word_at(image, k) != new {
+            print!(rt; " | {:x}.{} {new:x}", k / 512, k % 512)?;
+        }
     }
     Ok(())
 }
 
-fn print(rt: &impl Print, r: Report) -> io::Result<()> {
-    print!(rt;
-        " number {} used {:x} moved {:x} merged {:x} reached {:x}",
-        r.number, r.used, r.moved, r.merged, r.reached
-    )?;
-    let place = r.place;
-    print!(rt;
-        " at {:x} level {:x} offset {:x}",
-        place.address, place.level, place.offset
-    )
-}
-
-// Whether every word is 0.
-fn empty(words: &[u64]) -> bool {
-    for word in words {
-        if *word != 0 {
-            return false;
-        }
-    }
-    true
-}
-
-// What the build left: the changed entries, or what a refusal should have zeroed.
-fn left(rt: &impl Print, number: u64, image: &[u8], out: &[u8], scratch: &[u64]) -> io::Result<()> {
-    if number == 0 {
-        changes(rt, image, out)?;
-    } else if !tables::blank(out) {
-        text(rt, " output not zero")?;
-    }
-    if !empty(scratch) {
-        text(rt, " scratch not zero")?;
-    }
-    text(rt, "\n")
-}
-
-// The tables of the base.
-fn put_base(image: &mut [u8]) {
-    tables::put(image, 0, 0x10_1023);
-    tables::put(image, TABLE_1, 0x10_2023);
-    tables::put(image, MAPPED, 0x20_00e3);
-}
-
-// Builds with one range. The buffers are lent full of other bytes.
-fn build_by(
-    rt: &impl Print,
-    ranges: &[u64],
-    image: &[u8],
-    size: u64,
-    cpu: CpuPagingState,
-) -> io::Result<()> {
-    let mut out = [0xa5u8; MOST];
-    let mut scratch = [7u64; 4];
-    let r = Region {
-        gpa: GPA,
-        size: size,
-        used: image.len() as u64,
-    };
-    let report = build::build(image, &mut out, &mut scratch, ranges, r, cpu, 0);
-    print(rt, report)?;
-    left(rt, report.number, image, &out, &scratch)
-}
-
-// With an offset of the range over the base's leaf.
-fn build(
-    rt: &impl Print,
-    image: &[u8],
-    offset: u64,
-    size: u64,
-    cpu: CpuPagingState,
-) -> io::Result<()> {
-    let ranges = [0x20_0000u64, 0x3f_ffff, offset];
-    build_by(rt, &ranges, image, size, cpu)
-}
-
-// The registers of the base.
-fn four() -> CpuPagingState {
-    CpuPagingState { cr3: GPA, cr4: 0 }
-}
-
-// Runs the base with an offset and a change.
-fn run(rt: &impl Print, offset: u64, c: Variant) -> io::Result<()> {
-    let mut image = [0u8; USED];
-    put_base(&mut image);
-    tables::put(&mut image, c.slot, c.word);
-    build(rt, &image, offset, c.size, four())
-}
-
-// The base as it is, with an offset.
-fn plain(rt: &impl Print, label: &str, offset: u64) -> io::Result<()> {
-    text(rt, label)?;
-    run(
-        rt,
-        offset,
-        Variant {
-            size: 0x8000,
-            slot: MAPPED,
-            word: 0x20_00e3,
-        },
-    )
-}
-
-// The base with offset 0x200000 and one entry more.
-fn with_entry(rt: &impl Print, label: &str, slot: usize, word: u64) -> io::Result<()> {
-    text(rt, label)?;
-    run(
-        rt,
-        0x20_0000,
-        Variant {
-            size: 0x8000,
-            slot: slot,
-            word: word,
-        },
-    )
-}
-
-fn indices(rt: &impl Print) -> io::Result<()> {
-    let i = levels::indices(0x60_3000);
-    number(rt, "address 603000: indices ", i[4])?;
-    number(rt, " ", i[3])?;
-    number(rt, " ", i[2])?;
-    number(rt, " ", i[1])?;
-    number(rt, " ", i[0])?;
-    text(rt, "\n")
-}
-
-// The registers of a guest with five levels.
-fn five(cr3: u64) -> CpuPagingState {
-    CpuPagingState {
-        cr3: cr3,
-        cr4: 0x1000,
-    }
+// The base.
+fn four() -> Guest<USED> {
+    Guest::base(CpuPagingState { cr3: GPA, cr4: 0 })
 }
 
 // The base under a level-4 root.
-fn put_base_5(image: &mut [u8]) {
-    put_base(image);
-    tables::put(image, TABLE_3, 0x10_0023);
+fn five<const N: usize>(cr3: u64) -> Guest<N> {
+    let base = Guest::base(CpuPagingState { cr3, cr4: 0x1000 });
+    base.with(TABLE_3, 0x10_0023)
 }
 
-// Runs the base under a level-4 root with an offset and a change.
-fn run_5(rt: &impl Print, label: &str, offset: u64, c: Variant) -> io::Result<()> {
-    text(rt, label)?;
-    let mut image = [0u8; USED_5];
-    put_base_5(&mut image);
-    tables::put(&mut image, c.slot, c.word);
-    build(rt, &image, offset, c.size, five(ROOT_5))
+fn four_levels(rt: &impl Print) -> io::Result<()> {
+    let base = four();
+    base.moved(rt, "offset 1ff000:", 0x1f_f000)?;
+    base.moved(rt, "offset 200000:", 0x20_0000)?;
+    base.moved(rt, "offset 201000:", 0x20_1000)?;
+    base.moved(rt, "offset 40000000:", 0x4000_0000)?;
+    let far = [0x20_0000, 0x3f_ffff, 0x4000_0000];
+    base.build(rt, "offset 40000000, size 3000:", far, 0x3000)?;
+    base.moved(rt, "offset -200000:", 0xffff_ffff_ffe0_0000)?;
+    base.moved(rt, "offset -400000:", 0xffff_ffff_ffc0_0000)?;
+    base.with(TABLE_2 + 2, 0x40_00e3)
+        .moved(rt, "offset 200000, 2.2 = 4000e3:", 0x20_0000)?;
+    base.with(TABLE_2 + 2, 0x40_00e1)
+        .moved(rt, "offset 200000, 2.2 = 4000e1:", 0x20_0000)?;
+    base.with(511, 0x10_0023)
+        .moved(rt, "offset 200000, 0.511 = 100023:", 0x20_0000)?;
+    base.with(TABLE_2, 0x10_3023)
+        .moved(rt, "offset 200000, 2.0 = 103023:", 0x20_0000)?;
+    base.with(TABLE_2, 0x10_8023)
+        .moved(rt, "offset 200000, 2.0 = 108023:", 0x20_0000)?;
+    base.moved(rt, "offset ffffffc00000:", 0xffff_ffc0_0000)?;
+    base.moved(rt, "offset ffffffe00000:", 0xffff_ffe0_0000)
 }
 
-// As it is, with an offset.
-fn plain_5(rt: &impl Print, label: &str, offset: u64, size: u64) -> io::Result<()> {
-    run_5(
-        rt,
-        label,
-        offset,
-        Variant {
-            size: size,
-            slot: MAPPED,
-            word: 0x20_00e3,
-        },
-    )
-}
-
-// With one entry more in the root.
-fn with_entry_5(
-    rt: &impl Print,
-    label: &str,
-    offset: u64,
-    slot: usize,
-    word: u64,
-) -> io::Result<()> {
-    run_5(
-        rt,
-        label,
-        offset,
-        Variant {
-            size: 0x8000,
-            slot: slot,
-            word: word,
-        },
-    )
-}
-
-fn root_in_tail(rt: &impl Print) -> io::Result<()> {
-    text(rt, "five levels, offset 200000, cr3 104000:")?;
-    let mut image = [0u8; USED_5];
-    put_base_5(&mut image);
-    build(rt, &image, 0x20_0000, 0x8000, five(0x10_4000))
-}
-
-fn bit_seven(rt: &impl Print) -> io::Result<()> {
-    text(
-        rt,
-        "five levels, offset 200000, 3.0 = 1000a3, 0.0 = 1010a3:",
-    )?;
-    let mut image = [0u8; USED_5];
-    put_base_5(&mut image);
-    tables::put(&mut image, TABLE_3, 0x10_00a3);
-    tables::put(&mut image, 0, 0x10_10a3);
-    build(rt, &image, 0x20_0000, 0x8000, five(ROOT_5))
-}
-
-fn far_leaf(rt: &impl Print) -> io::Result<()> {
-    text(
-        rt,
-        "five levels, offset 200000, used 6000, 3.16 = 104023, 4.0 = 105023, 5.0 = e3:",
-    )?;
-    let mut image = [0u8; 0x6000];
-    put_base_5(&mut image);
-    tables::put(&mut image, TABLE_3 + 16, 0x10_4023);
-    tables::put(&mut image, TABLE_3 + 512, 0x10_5023);
-    tables::put(&mut image, TABLE_3 + 1024, 0xe3);
-    build(rt, &image, 0x20_0000, 0x8000, five(ROOT_5))
-}
-
-fn five_levels_with_an_entry(rt: &impl Print) -> io::Result<()> {
-    with_entry_5(
-        rt,
-        "five levels, offset 1000000000000, 3.1 = 200023:",
-        0x1_0000_0000_0000,
-        TABLE_3 + 1,
-        0x20_0023,
-    )?;
-    with_entry_5(
-        rt,
-        "five levels, offset 200000, 3.511 = 107023:",
-        0x20_0000,
-        TABLE_3 + 511,
-        0x10_7023,
-    )
+fn indices(rt: &impl Print) -> io::Result<()> {
+    let [i0, i1, i2, i3, i4] = levels::indices(0x60_3000);
+    println!(rt; "address 603000: indices {i4:x} {i3:x} {i2:x} {i1:x} {i0:x}")
 }
 
 fn five_levels(rt: &impl Print) -> io::Result<()> {
-    plain_5(rt, "five levels, offset 200000:", 0x20_0000, 0x8000)?;
-    plain_5(
-        rt,
-        "five levels, offset 1000000000000:",
-        0x1_0000_0000_0000,
-        0x8000,
-    )?;
-    plain_5(
+    let base: Guest<USED_5> = five(ROOT_5);
+    base.moved(rt, "five levels, offset 200000:", 0x20_0000)?;
+    base.moved(rt, "five levels, offset 1000000000000:", 0x1_0000_0000_0000)?;
+    let far = [0x20_0000, 0x3f_ffff, 0x1_0000_0000_0000];
+    base.build(
         rt,
         "five levels, offset 1000000000000, size 4000:",
-        0x1_0000_0000_0000,
+        far,
         0x4000,
     )?;
-    root_in_tail(rt)?;
-    plain_5(
+    let in_tail: Guest<USED_5> = five(0x10_4000);
+    in_tail.moved(rt, "five levels, offset 200000, cr3 104000:", 0x20_0000)?;
+    base.moved(rt, "five levels, offset fffffffc00000:", 0xf_ffff_ffc0_0000)?;
+    base.moved(rt, "five levels, offset fffffffe00000:", 0xf_ffff_ffe0_0000)?;
+    let bit_seven = base.with(TABLE_3, 0x10_00a3).with(0, 0x10_10a3);
+    bit_seven.moved(
         rt,
-        "five levels, offset fffffffc00000:",
-        0xf_ffff_ffc0_0000,
-        0x8000,
+        "five levels, offset 200000, 3.0 = 1000a3, 0.0 = 1010a3:",
+        0x20_0000,
     )?;
-    plain_5(
+    let outside = base.with(TABLE_3 + 1, 0x20_0023);
+    outside.moved(
         rt,
-        "five levels, offset fffffffe00000:",
-        0xf_ffff_ffe0_0000,
-        0x8000,
+        "five levels, offset 1000000000000, 3.1 = 200023:",
+        0x1_0000_0000_0000,
     )?;
-    bit_seven(rt)?;
-    five_levels_with_an_entry(rt)?;
+    let tail = base.with(TABLE_3 + 511, 0x10_7023);
+    tail.moved(rt, "five levels, offset 200000, 3.511 = 107023:", 0x20_0000)?;
     far_leaf(rt)
 }
 
-fn gigabyte(rt: &impl Print) -> io::Result<()> {
-    text(
+fn far_leaf(rt: &impl Print) -> io::Result<()> {
+    let base: Guest<0x6000> = five(ROOT_5);
+    let far = base
+        .with(TABLE_3 + 16, 0x10_4023)
+        .with(TABLE_3 + 512, 0x10_5023)
+        .with(TABLE_3 + 1024, 0xe3);
+    far.moved(
         rt,
-        "range 40000000 to 7fffffff, offset 40000000, 1.1 = 600000e3:",
-    )?;
-    let mut image = [0u8; USED];
-    put_base(&mut image);
-    tables::put(&mut image, TABLE_1 + 1, 0x6000_00e3);
-    let ranges = [0x4000_0000u64, 0x7fff_ffff, 0x4000_0000];
-    build_by(rt, &ranges, &image, 0x8000, four())
-}
-
-// A leaf with bit 12 meets an entry.
-fn bit_twelve(rt: &impl Print, label: &str, met: u64) -> io::Result<()> {
-    text(rt, label)?;
-    let mut image = [0u8; USED];
-    put_base(&mut image);
-    tables::put(&mut image, MAPPED, 0x20_10e3);
-    tables::put(&mut image, TABLE_2 + 2, met);
-    build(rt, &image, 0x20_0000, 0x8000, four())
+        "five levels, offset 200000, used 6000, 3.16 = 104023, 4.0 = 105023, 5.0 = e3:",
+        0x20_0000,
+    )
 }
 
 fn leaf_bits(rt: &impl Print) -> io::Result<()> {
-    with_entry(rt, "offset 200000, 2.1 = 3010e3:", MAPPED, 0x30_10e3)?;
-    gigabyte(rt)?;
-    bit_twelve(rt, "offset 200000, 2.1 = 2010e3, 2.2 = 4000e3:", 0x40_00e3)?;
-    bit_twelve(rt, "offset 200000, 2.1 = 2010e3, 2.2 = 4010e3:", 0x40_10e3)
+    let base = four();
+    base.with(MAPPED, 0x30_10e3)
+        .moved(rt, "offset 200000, 2.1 = 3010e3:", 0x20_0000)?;
+    let gigabyte = base.with(TABLE_1 + 1, 0x6000_00e3);
+    let range = [0x4000_0000, 0x7fff_ffff, 0x4000_0000];
+    gigabyte.build(
+        rt,
+        "range 40000000 to 7fffffff, offset 40000000, 1.1 = 600000e3:",
+        range,
+        SIZE,
+    )?;
+    // a leaf with bit 12 meets an entry
+    let leaf = base.with(MAPPED, 0x20_10e3);
+    leaf.with(TABLE_2 + 2, 0x40_00e3).moved(
+        rt,
+        "offset 200000, 2.1 = 2010e3, 2.2 = 4000e3:",
+        0x20_0000,
+    )?;
+    leaf.with(TABLE_2 + 2, 0x40_10e3).moved(
+        rt,
+        "offset 200000, 2.1 = 2010e3, 2.2 = 4010e3:",
+        0x20_0000,
+    )
 }
 
 fn main(rt: HostRuntime) -> io::Result<()> {
-    plain(&rt, "offset 1ff000:", 0x1f_f000)?;
-    plain(&rt, "offset 200000:", 0x20_0000)?;
-    plain(&rt, "offset 201000:", 0x20_1000)?;
-    plain(&rt, "offset 40000000:", 0x4000_0000)?;
-    text(&rt, "offset 40000000, size 3000:")?;
-    run(
-        &rt,
-        0x4000_0000,
-        Variant {
-            size: 0x3000,
-            slot: MAPPED,
-            word: 0x20_00e3,
-        },
-    )?;
-    plain(&rt, "offset -200000:", 0xffff_ffff_ffe0_0000)?;
-    plain(&rt, "offset -400000:", 0xffff_ffff_ffc0_0000)?;
-    with_entry(&rt, "offset 200000, 2.2 = 4000e3:", TABLE_2 + 2, 0x40_00e3)?;
-    with_entry(&rt, "offset 200000, 2.2 = 4000e1:", TABLE_2 + 2, 0x40_00e1)?;
-    with_entry(&rt, "offset 200000, 0.511 = 100023:", 511, 0x10_0023)?;
-    with_entry(&rt, "offset 200000, 2.0 = 103023:", TABLE_2, 0x10_3023)?;
-    with_entry(&rt, "offset 200000, 2.0 = 108023:", TABLE_2, 0x10_8023)?;
-    plain(&rt, "offset ffffffc00000:", 0xffff_ffc0_0000)?;
-    plain(&rt, "offset ffffffe00000:", 0xffff_ffe0_0000)?;
+    four_levels(&rt)?;
     indices(&rt)?;
     five_levels(&rt)?;
     leaf_bits(&rt)

@@ -2,9 +2,11 @@
 // error for what goes wrong.
 #![tactic(auto)]
 
-ghost use Rattle.std.specs.Prelude.{◌≡◌, ◌≤◌, length, take};
-ghost use Rattle.files.specs.Meaning.{bytes_read, Fills};
+ghost use Rattle.std.specs.Prelude.{◌≡◌, ◌≤◌, [], length, take, IfSome, IfOk, vec_len};
+ghost use Rattle.files.specs.Meaning.{Fills};
 
+use arrayvec::ArrayVec;
+use std::alloc::{AllocError, Global};
 use std::env::FillError;
 use std::fmt::InlineText;
 use std::fs::File;
@@ -30,11 +32,33 @@ const NAME_BYTES: usize = 4096;
 // Room for any error in words.
 const WORDS_BYTES: usize = 256;
 
-// How reading into a buffer went: so many bytes are at its start, or a read failed.
-#[derive(Clone, Copy)]
-pub enum Filled {
-    Bytes(usize),
-    Failed,
+// What a program lends to a build.
+#[derive(Drop)]
+pub struct Buffers {
+    pub image: Vec<u8>,
+    pub output: Vec<u8>,
+    pub scratch: Vec<u64>,
+    pub ranges: ArrayVec<u64, RANGE_WORDS>,
+}
+
+impl Buffers {
+    // Zeros, as many as can change a build's answer, and no ranges yet.
+    pub fn new(alloc: Global) -> Result<Buffers, AllocError>
+        ensures { IfOk result (λ b.
+            (vec_len b.image ≡ IMAGE_BYTES) × (vec_len b.output ≡ OUTPUT_BYTES) × (vec_len b.scratch ≡ SCRATCH_WORDS)
+            × (b.ranges.items ≡ [])) }
+    {
+        let image = vec![in alloc; 0u8; IMAGE_BYTES]?;
+        let output = vec![in alloc; 0u8; OUTPUT_BYTES]?;
+        let scratch = vec![in alloc; 0u64; SCRATCH_WORDS]?;
+        let ranges = ArrayVec::new();
+        Ok(Buffers {
+            image,
+            output,
+            scratch,
+            ranges,
+        })
+    }
 }
 
 // How many arguments the program was started with, its own name among them.
@@ -62,22 +86,11 @@ pub fn fail(rt: &impl Eprint, what: &str, error: io::Error) {
     }
 }
 
-// The first n bytes, or all where there are fewer.
-pub fn front(s: &[u8], n: usize) -> &[u8]
-    ensures { result.now ≡ take n s.now }
+// The first n, or all where there are fewer.
+pub fn front<T>(items: &[T], n: usize) -> &[T]
+    ensures { result.now ≡ take n items.now }
 {
-    if n <= s.len() { &s[0..n] } else { s }
-}
-
-// The first n words, or all where there are fewer.
-pub fn front_words(words: &[u64], n: usize) -> &[u64]
-    ensures { result.now ≡ take n words.now }
-{
-    if n <= words.len() {
-        &words[0..n]
-    } else {
-        words
-    }
+    items.get(..n).unwrap_or(items)
 }
 
 // The name that argument `at` is; where it can be none, that is said on standard error.
@@ -120,34 +133,39 @@ pub fn open<R: Env + Files + Eprint>(rt: &R, at: usize, what: &str) -> Option<R:
     }
 }
 
-// Reads until the buffer is full or the file ends; a read that fails is said on standard error.
-pub fn fill<F: Read>(rt: &impl Eprint, file: &mut F, what: &str, buf: &mut [u8]) -> Filled
-    ensures within { bytes_read result ≤ length buf.old }
-    ensures bytes { Fills (F.remaining file.old) (F.remaining file.new) buf.new result }
+// Reads until the buffer is full or the file ends: how many bytes are at its start, or none where a read failed, which is said on
+// standard error.
+pub fn fill<F: Read>(rt: &impl Eprint, file: &mut F, what: &str, buf: &mut [u8]) -> Option<usize>
+    ensures within { IfSome result (λ n. n ≤ length buf.old) }
+    ensures bytes { IfSome result (λ n. Fills (F.remaining file.old) (F.remaining file.new) buf.new n) }
 {
     let mut n: usize = 0;
+    // A while: how far a read comes is known only after it.
     while n < buf.len() {
         let more = match file.read(&mut buf[n..]) {
             Ok(more) => more,
             Err(error) => {
                 fail(rt, what, error);
-                return Filled::Failed;
+                return None;
             }
         };
         if more == 0 {
-            return Filled::Bytes(n);
+            return Some(n);
         }
         n += more;
     }
-    Filled::Bytes(n)
+    Some(n)
 }
 
 // Reads the file that argument `at` names, as far as the buffer has room; what goes wrong is said on standard error.
-pub fn read<R: Env + Files + Eprint>(rt: &R, at: usize, what: &str, buf: &mut [u8]) -> Filled {
-    match open(rt, at, what) {
-        None => Filled::Failed,
-        Some(mut file) => fill(rt, &mut file, what, buf),
-    }
+pub fn read<R: Env + Files + Eprint>(
+    rt: &R,
+    at: usize,
+    what: &str,
+    buf: &mut [u8],
+) -> Option<usize> {
+    let mut file = open(rt, at, what)?;
+    fill(rt, &mut file, what, buf)
 }
 
 // Writes the bytes to the file that argument `at` names; what goes wrong is said on standard error.

@@ -16,7 +16,8 @@ use Rattle.definitions.specs.Step.{go, unless}
 use Rattle.definitions.specs.declared.Moved.{Moved}
 use Rattle.moved.specs.View.{leaf_at, nth, leaf_of, size, gather, leaves_of, Held, Room, Gap, Put, GapMoved, Remembered, Keeps}
 use Rattle.moved.specs.declared.Store.{Store}
-use Rattle.moved.specs.declared.Kept.TheVariants.{In, Clash, Full}
+use Rattle.definitions.specs.declared.refusals.Error.{Error}
+use Rattle.std.specs.Prelude.{Ok, Err}
 use Rattle.moved.proofs.Slots.{split, slot_before, slot_after}
 use Rattle.moved.proofs.Leaves.{leaves_length}
 
@@ -161,15 +162,15 @@ tested : (xs : List ℕ) (s : Store) {t : Bool} → leb (length xs / 3) (size s)
 tested xs s e = ap (leb (length xs / 3)) (leaves_length xs s) ∙ e
 
 module _ {xs : List ℕ} {s : Store} {x : Moved} where
-  pub keeps_clash : taken x.address (leaves_of xs s) ≡ true → Keeps xs s x xs Clash
+  pub keeps_clash : taken x.address (leaves_of xs s) ≡ true → Keeps xs s x xs (Err Error.SameAddress)
   unfolding unless
   keeps_clash h = record { step = λ p. rw h; kept = refl; long = refl }
 
-  pub keeps_full : taken x.address (leaves_of xs s) ≡ false → length xs / 3 ≤ size s → Keeps xs s x xs Full
+  pub keeps_full : taken x.address (leaves_of xs s) ≡ false → length xs / 3 ≤ size s → Keeps xs s x xs (Err Error.NoRoom)
   unfolding unless
   keeps_full h k = record { step = λ p. rw (h, tested xs s (le-leb (length xs / 3) (size s) k)); kept = refl; long = refl }
 
-  pub keeps_in : {ys : List ℕ} {t : Store} → taken x.address (leaves_of xs s) ≡ false → Room xs s → Remembered xs s x ys t → Keeps xs s x ys (In t)
+  pub keeps_in : {ys : List ℕ} {t : Store} → taken x.address (leaves_of xs s) ≡ false → Room xs s → Remembered xs s x ys t → Keeps xs s x ys (Ok t)
   unfolding unless
   keeps_in h k r =
       record { step = λ p. rw (h, tested xs s (lt-leb (length xs / 3) (size s) k)) (ap go r.leaves); kept = r.held; long = r.long }

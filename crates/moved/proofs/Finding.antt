@@ -10,8 +10,7 @@ use lib.ListN.{length}
 use Rattle.definitions.specs.Pass1.{taken}
 use Rattle.moved.specs.View.{address_at, leaf_of, size, leaves_of, Sorted, Between, Found, Sought, Finds, Held, Gap}
 use Rattle.moved.specs.declared.Store.{Store}
-use Rattle.moved.specs.declared.Slot.{Slot}
-use Rattle.moved.specs.declared.Slot.TheVariants.{Free, Taken}
+use Rattle.std.specs.Prelude.{Option, Some, None}
 use Rattle.moved.proofs.Slots.{split, slot_before, slot_after}
 use Rattle.moved.proofs.Leaves.{taken_at, taken_nowhere}
 
@@ -53,7 +52,7 @@ module _ {xs : List ℕ} {s : Store} (held : Held xs s) where
     pub found_back : Found xs (start xs s) (length xs / 3) key → taken key (leaves_of xs s) ≡ true
     found_back f = taken_at xs s key (back f.at) (omega (arith, f.low, f.high)) (back_at f.at f.low ∙ f.same)
 
-    pub finds_free : {i : ℕ} → Gap xs s key i → Finds xs s key (Free i)
+    pub finds_free : {i : ℕ} → Gap xs s key i → Finds xs s key (Some i)
     finds_free {i} g = (taken_nowhere xs s key other, g)
       where
         other : (j : ℕ) → j < size s → (leaf_of xs s j).address ≡ key → ⊥
@@ -69,9 +68,9 @@ module _ {xs : List ℕ} {s : Store} (held : Held xs s) where
           (λ u. omega (arith, held.ascending (s.front - 1) j (omega arith) m, in_front (s.front - 1) (omega arith))) (split j s.front);
     }
 
-    pub finds_front : (r : Slot) → 0 < s.front → key ≤ address_at xs (s.front - 1) → Sought xs 0 s.front key r → Finds xs s key r
-    finds_front (Free i) p q h = finds_free (gap_front h p q)
-    finds_front Taken p q h = found_front h
+    pub finds_front : (r : Option ℕ) → 0 < s.front → key ≤ address_at xs (s.front - 1) → Sought xs 0 s.front key r → Finds xs s key r
+    finds_front (Some i) p q h = finds_free (gap_front h p q)
+    finds_front None p q h = found_front h
 
     -- ---- every leaf before the gap is lower
 

@@ -1,12 +1,14 @@
 -- The task at an entry, and the cases of a leaf that moves, each from the facts that the code's tests give.
 -- Assumes nothing.
-use Rattle.std.proofs.Common.{◌≡◌, ℕ, ◌+◌, ◌/◌, ◌%◌, ◌<◌, ◌≤◌, true, false, leb, List, length, sym, refl, ap, ◌∙◌, subst, arith, le-ltb, lt-ltb, eq-eqb, ne_eqb}
+use Rattle.std.proofs.Common.{◌≡◌, ℕ, ◌+◌, ◌/◌, ◌%◌, ◌<◌, ◌≤◌, true, false, leb, List, length, sym, refl, ap, ◌∙◌, arith, le-ltb, lt-ltb, eq-eqb, ne_eqb}
 use Rattle.definitions.specs.Words.{Mem, Tables, put}
 use Rattle.definitions.specs.Geometry.{span}
 use Rattle.definitions.specs.Entry.{present, pointer, with_leaf_address}
 use Rattle.definitions.specs.Inputs.{place_at, refusal_at, refusal_with}
+use Rattle.definitions.specs.declared.refusals.Error.{Error}
+use Rattle.std.specs.Prelude.{Option, None, Some, Result, Ok, Err, MatchResult}
 use Rattle.definitions.specs.Ranges.{shifted, kind, kind_of, decide, deciding, ranges_of, shift}
-use Rattle.definitions.specs.Step.{Step, go, stop, stopped, unless, and_then}
+use Rattle.definitions.specs.Step.{Step, go, unless, and_then}
 use Rattle.definitions.specs.Pass1 as D
 use Rattle.definitions.specs.Pass1.{State, taken, remember, move_act, leaf_act, kind_act, act, perform}
 use Rattle.definitions.specs.declared.Moved.{Moved}
@@ -16,27 +18,13 @@ use Rattle.definitions.specs.declared.paging.Geometry.{Geometry}
 use Rattle.definitions.proofs.Pass1.{act_absent, act_stay}
 use Rattle.definitions.proofs.Step.{unless_then}
 use Rattle.definitions.proofs.Kind.{leaf_low}
-use Rattle.moved.specs.View.{leaf, leaves_of, kept_step, KeptIn, Keeps, Held}
+use Rattle.moved.specs.View.{leaf, leaves_of, kept_step, Keeps}
 use Rattle.moved.specs.declared.Store.{Store}
-use Rattle.moved.specs.declared.Kept.{Kept}
-use Rattle.moved.specs.declared.Kept.TheVariants as kept
 use Rattle.ranges.specs.Lists.{says_of, says, Looks, LookupFits}
-use Rattle.ranges.specs.declared.Shift.{Shift}
-use Rattle.ranges.specs.declared.Shift.TheVariants.{By, Stay}
 use Rattle.pass1.specs.declared.Plan.{Plan}
-use Rattle.pass1.specs.declared.Walk.{Walk}
 use Rattle.pass1.specs.declared.Spot.{Spot}
 use Rattle.pass1.specs.declared.Task.TheVariants.{Skip, Leaf}
-use Rattle.pass1.specs.declared.Departure.TheVariants.{Stored, Refused}
-use Rattle.pass1.specs.Walks.{state_of, view, Runs, outcome, plan_of, Told, TaskFits, Departs}
-
--- ---- the state
-
-pub outcome_go : (m : Mem) (xs : List ℕ) (w : Walk) → Runs w → outcome m xs w ≡ go (view m xs w)
-outcome_go m xs w h = rw (eq-eqb w.refusal.number 0 h)
-
-pub outcome_stop : (m : Mem) (xs : List ℕ) (w : Walk) → (Runs w → ⊥) → outcome m xs w ≡ stopped w.refusal
-outcome_stop m xs w h = rw (ne_eqb w.refusal.number 0 h)
+use Rattle.pass1.specs.Walks.{state_of, plan_of, Told, TaskFits, Departs}
 
 -- ---- the task
 
@@ -56,15 +44,15 @@ module _ (p : Plan) (ws : List ℕ) (x : Spot) where
   told_absent h n = act_absent (plan_of p ws n) x.level x.va x.entry h
 
   module _ (here : present x.entry ≡ true) (points : pointer x.level x.entry ≡ false) (size : x.size ≡ span x.level)
-      (s : Shift) (looks : Looks ws p.old p.offset x.size x.va s) where
+      (s : Option ℕ) (looks : Looks ws p.old p.offset x.size x.va s) where
     decided : decide (deciding p.old p.offset (ranges_of ws)) x.level x.va ≡ says_of s
     unfolding decide
     decided = sym (looks ∙ ap (λ (n : ℕ). says p.old p.offset x.va n (ranges_of ws)) size)
 
-    pub told_stay : s ≡ Stay → Told ws p x Skip
+    pub told_stay : s ≡ None → Told ws p x Skip
     told_stay q n = act_stay (plan_of p ws n) x.level x.va x.entry here points (decided ∙ ap says_of q)
 
-    pub told_by : (o : ℕ) → s ≡ By o → Told ws p x (Leaf o)
+    pub told_by : (o : ℕ) → s ≡ Some o → Told ws p x (Leaf o)
     unfolding act kind kind_of kind_act leaf_act
     told_by o q =
         let d : decide (deciding p.old p.offset (ranges_of ws)) x.level x.va ≡ shift o = decided ∙ ap says_of q in
@@ -96,63 +84,64 @@ place x = place_at x.va x.level
 abbrev cleared : Spot → Mem → Tables → List Moved → Step State
 cleared x m reached ms = go (record { mem = put m x.word 0; reached = reached; moved = ms })
 
-answered : (q : Place) (ys : List ℕ) {k j : Kept} → k ≡ j → kept_step q j ys ≡ kept_step q k ys
-answered q ys e = ap (λ (z : Kept). kept_step q z ys) (sym e)
-
-module _ {g : Geometry} {x : Spot} {o : ℕ} {m : Mem} {xs : List ℕ} {s : Store} (held : Held xs s) where
-  pub moves_odd : (o % span x.level ≡ 0 → ⊥) → {r : Refusal} → r ≡ refusal_with 12 x.va x.level o → Departs g x o m xs s m xs (Refused r)
+module _ {g : Geometry} {x : Spot} {o : ℕ} {m : Mem} {xs : List ℕ} {s : Store} where
+  pub moves_odd : (o % span x.level ≡ 0 → ⊥) → {r : Refusal} → r ≡ refusal_with Error.UnalignedOffset x.va x.level o
+      → Departs g x o m xs s m xs (Err r)
   unfolding move_act perform
   moves_odd h e =
       rw e (record {
         step = λ p q reached down. rw (ne_eqb (o % span x.level) 0 h);
-        held = (held, λ z. omega arith);
+        held = tt;
         long = refl;
       })
 
   pub moves_past : o % span x.level ≡ 0 → g.limit < shifted x.va o + span x.level
-      → {r : Refusal} → r ≡ refusal_with 13 x.va x.level o → Departs g x o m xs s m xs (Refused r)
+      → {r : Refusal} → r ≡ refusal_with Error.OutOfBounds x.va x.level o → Departs g x o m xs s m xs (Err r)
   unfolding move_act perform
   moves_past h f e =
       rw e (record {
         step = λ p q reached down. rw (q, eq-eqb (o % span x.level) 0 h, lt-ltb _ _ f);
-        held = (held, λ z. omega arith);
+        held = tt;
         long = refl;
       })
 
 module _ {g : Geometry} {x : Spot} {o b v : ℕ} (away : Away g x o b v)
-    {xs : List ℕ} {s : Store} {ys : List ℕ} {k : Kept} (keeps : Keeps xs s (leaf b x.level v) ys k) where
+    {xs : List ℕ} {s : Store} {ys : List ℕ} {k : Result Store Error} (keeps : Keeps xs s (leaf b x.level v) ys k) where
   -- what the store answered, and then the entry cleared, is the act
-  acted : (m : Mem) {z : Step (List Moved)} → z ≡ kept_step (place x) k ys → (p : D.Plan) → p.geometry ≡ g
-      → (reached : Tables) (down : ℕ → State → Step State) → and_then z (cleared x m reached)
+  acted : (m : Mem) (p : D.Plan) → p.geometry ≡ g
+      → (reached : Tables) (down : ℕ → State → Step State) → and_then (kept_step (place x) k ys) (cleared x m reached)
       ≡ perform (length xs / 3) down x.level x.va x.word (state_of m xs reached s) (move_act p x.level x.va x.entry o)
   unfolding move_act perform
-  acted m e p q reached down =
-      ap (λ (z : Step (List Moved)). and_then z (cleared x m reached)) (e ∙ keeps.step (place x))
+  acted m p q reached down =
+      ap (λ (z : Step (List Moved)). and_then z (cleared x m reached)) (keeps.step (place x))
       ∙ remembering_then (length xs / 3) (leaves_of xs s) (place x) (leaf b x.level v) (cleared x m reached)
       ∙ rw (away.word, away.to, q, eq-eqb (o % span x.level) 0 away.whole, le-ltb _ _ away.low)
 
-  pub moves_in : {t : Store} → k ≡ kept.In t → {m m' : Mem} → m' ≡ put m x.word 0 → Departs g x o m xs s m' ys (Stored t)
-  unfolding and_then
-  moves_in {t} e {m} c =
-      record {
-        step = λ p q reached down. ap (λ (z : Mem). go (state_of z ys reached t)) c ∙ acted m (answered (place x) ys e) p q reached down;
-        held = subst (KeptIn xs ys) e keeps.kept;
-        long = keeps.long;
-      }
+-- the leaf is taken out
+pub moves_in : {g : Geometry} {x : Spot} {o b v : ℕ} → Away g x o b v → {xs : List ℕ} {s : Store} {ys : List ℕ} {t : Store}
+    → Keeps xs s (leaf b x.level v) ys (Ok t) → {m m' : Mem} → m' ≡ put m x.word 0 → Departs g x o m xs s m' ys (Ok t)
+unfolding and_then
+moves_in {x = x} away {ys = ys} {t = t} keeps {m} c =
+    record {
+      step = λ p q reached down. ap (λ (z : Mem). go (state_of z ys reached t)) c ∙ acted away keeps m p q reached down;
+      held = keeps.kept;
+      long = keeps.long;
+    }
 
-  module _ (held : Held xs s) where
-    moves_not : (n : ℕ) → (n ≡ 0 → ⊥) → stop n (place x) ≡ kept_step (place x) k ys → ys ≡ xs
-        → {m : Mem} {r : Refusal} → r ≡ refusal_at n x.va x.level → Departs g x o m xs s m ys (Refused r)
-    unfolding and_then
-    moves_not n some e same {m} c =
-        rw c (record {
-          step = acted m e;
-          held = (subst (λ (z : List ℕ). Held z s) (sym same) held, some);
-          long = keeps.long;
-        })
+-- it is refused
+pub moves_not : {g : Geometry} {x : Spot} {o b v : ℕ} → Away g x o b v → {xs : List ℕ} {s : Store} {ys : List ℕ} {e : Error}
+    → Keeps xs s (leaf b x.level v) ys (Err e) → {m : Mem} {r : Refusal} → r ≡ refusal_at e x.va x.level → Departs g x o m xs s m ys (Err r)
+unfolding and_then
+moves_not away keeps {m} c =
+    rw c (record {
+      step = acted away keeps m;
+      held = tt;
+      long = keeps.long;
+    })
 
-    pub moves_clash : k ≡ kept.Clash → {m : Mem} {r : Refusal} → r ≡ refusal_at 14 x.va x.level → Departs g x o m xs s m ys (Refused r)
-    moves_clash e = moves_not 14 (λ z. omega arith) (answered (place x) ys e) (subst (KeptIn xs ys) e keeps.kept)
-
-    pub moves_full : k ≡ kept.Full → {m : Mem} {r : Refusal} → r ≡ refusal_at 15 x.va x.level → Departs g x o m xs s m ys (Refused r)
-    moves_full e = moves_not 15 (λ z. omega arith) (answered (place x) ys e) (subst (KeptIn xs ys) e keeps.kept)
+-- so, whatever it is refused for
+pub moves_refused : {g : Geometry} {x : Spot} {o b v : ℕ} → Away g x o b v → {xs : List ℕ} {s : Store} {ys : List ℕ} {k : Result Store Error}
+    → Keeps xs s (leaf b x.level v) ys k → {m : Mem} {r : Refusal}
+    → MatchResult k (λ t. ◌≡◌ {A = Result Store Refusal} (Err r) (Ok t)) (λ e. r ≡ refusal_at e x.va x.level) → Departs g x o m xs s m ys (Err r)
+moves_refused away {k = Ok t} keeps e = absurd (cc)
+moves_refused away {k = Err d} keeps e = moves_not away keeps e

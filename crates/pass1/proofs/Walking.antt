@@ -5,7 +5,7 @@ use native.Mathlib.Nat.{zero-mod}
 use lib.Arith.{digits_mod}
 use Rattle.definitions.specs.Words.{Mem, Tables, slot, mark, no_tables, words_of}
 use Rattle.definitions.specs.Geometry.{root_height, span}
-use Rattle.definitions.specs.Step.{Step, and_then, times, stopped}
+use Rattle.definitions.specs.Step.{Step, and_then, times}
 use Rattle.definitions.specs.Pass1.{State, Act, perform, visit, walk_table}
 use Rattle.definitions.proofs.Geometry.{SoundGeometry, span_pos, span_suc}
 use Rattle.definitions.specs.declared.Moved.{Moved}
@@ -13,18 +13,19 @@ use Rattle.definitions.specs.declared.Refusal.{Refusal}
 use Rattle.definitions.specs.declared.paging.Geometry.{Geometry}
 use Rattle.moved.specs.View.{Held, Empty}
 use Rattle.moved.specs.declared.Store.{Store}
-use Rattle.moved.proofs.Leaves.{empty_leaves}
+use Rattle.moved.proofs.Leaves.{empty_leaves, empty_held}
 use Rattle.reached.specs.Held.{set_of}
+use Rattle.reached.specs.declared.Reached.{Reached}
+use Rattle.std.specs.Prelude.{None, Some, Result, Ok, Err}
 use Rattle.pass1.specs.declared.Plan.{Plan}
 use Rattle.pass1.specs.declared.Walk.{Walk}
 use Rattle.pass1.specs.declared.Spot.{Spot}
-use Rattle.pass1.specs.declared.Departure.TheVariants.{Stored, Refused}
-use Rattle.pass1.specs.declared.Turn.{Turn}
-use Rattle.pass1.specs.declared.Turn.TheVariants.{Down, Done}
-use Rattle.pass1.specs.declared.Opened.{Opened}
 use Rattle.pass1.specs.declared.Task.TheVariants.{Skip, Leaf}
-use Rattle.pass1.specs.Walks.{spot_in, act_at, view, outcome, Runs, refusing, plan_of, Told, Departs, Opens, opens_to, Lies, AtHand, Visits, Walked, FirstWalked}
-use Rattle.pass1.proofs.Moving.{outcome_go, outcome_stop}
+use Rattle.pass1.specs.Walks.{spot_in, act_at, view, outcome, LeavesHeld, plan_of, Told, Departs, walk_of, Opens, Lies, AtHand, Visits, Walked, FirstWalked}
+
+-- any scratch holds a store: the one of no leaf
+some_held : (xs : List ℕ) → (s : Store) × Held xs s
+some_held xs = (record { front = 0; back = 0 }, empty_held xs _ (record { front = refl; back = refl }))
 
 -- ---- where entries lie
 
@@ -68,10 +69,6 @@ at_hand n g x m k l s a at f h e d = subst (AtHand n g) (sym at) (record { fits 
 
 -- ---- an entry and what is below
 
--- the state with another store
-abbrev pub storing : Walk → Store → Walk
-storing w t = record { reached = w.reached; store = t; refusal = w.refusal }
-
 module _ (ws : List ℕ) (p : Plan) (x : Spot) (m : Mem) (xs : List ℕ) (w : Walk) where
   abbrev down_of : ℕ → State → Step State
   down_of = walk_table (plan_of p ws (length xs)) x.level x.va
@@ -80,50 +77,40 @@ module _ (ws : List ℕ) (p : Plan) (x : Spot) (m : Mem) (xs : List ℕ) (w : Wa
   does = perform (length xs / 3) down_of x.level x.va x.word (view m xs w)
 
   -- an entry that stays
-  pub skip_visits : Told ws p x Skip → Runs w → Held xs w.store → Visits ws p x m xs w m xs w
+  pub skip_visits : Told ws p x Skip → Held xs w.store → Visits ws p x m xs w m xs (Ok w)
   unfolding perform
-  skip_visits told runs held = record { step = outcome_go m xs w runs ∙ sym (ap does (told (length xs))); held = held; long = refl }
+  skip_visits told held = record { step = sym (ap does (told (length xs))); held = held; long = refl }
 
   -- a leaf that moves by o
   module _ (o : ℕ) (told : Told ws p x (Leaf o)) (m' : Mem) (ys : List ℕ) where
-    pub stored_visits : (t : Store) → Departs p.geometry x o m xs w.store m' ys (Stored t) → Runs w → Visits ws p x m xs w m' ys (storing w t)
-    stored_visits t d runs = record {
-      step = outcome_go m' ys (storing w t) runs ∙ d.step (plan_of p ws (length xs)) refl (set_of w.reached) down_of
-          ∙ sym (ap does (told.1 (length xs)));
+    pub stored_visits : (t : Store) → Departs p.geometry x o m xs w.store m' ys (Ok t) → Visits ws p x m xs w m' ys (Ok (walk_of w.reached t))
+    stored_visits t d = record {
+      step = d.step (plan_of p ws (length xs)) refl (set_of w.reached) down_of ∙ sym (ap does (told.1 (length xs)));
       held = d.held;
       long = d.long;
     }
 
-    pub refused_visits : (r : Refusal) → Departs p.geometry x o m xs w.store m' ys (Refused r) → (w' : Walk) → w' ≡ refusing w r
-        → Visits ws p x m xs w m' ys w' × (Runs w' → ⊥)
-    refused_visits r d w' e = rw e (
-      record {
-        step = outcome_stop m' ys (refusing w r) d.held.1
-            ∙ d.step (plan_of p ws (length xs)) refl (set_of w.reached) down_of ∙ sym (ap does (told.1 (length xs)));
-        held = d.held.0;
-        long = d.long;
-      },
-      d.held.1,
-    )
-
-  -- a pointer that is opened
-  module _ (held : Held xs w.store) (m' : Mem) (o : Opened) (opens : Opens p x m w m' o) where
-    pub opened_held : Held xs o.state.store
-    opened_held = subst (Held xs) (sym opens.store) held
-
-    pub visits_done : o.turn ≡ Done → Visits ws p x m xs w m' xs o.state
-    visits_done q = record {
-      step = ap (λ (u : Turn). opens_to down_of u m' xs o.state) (sym q) ∙ opens.step ws xs down_of;
-      held = opened_held;
-      long = refl;
+    pub refused_visits : (r : Refusal) → Departs p.geometry x o m xs w.store m' ys (Err r) → Visits ws p x m xs w m' ys (Err r)
+    refused_visits r d = record {
+      step = d.step (plan_of p ws (length xs)) refl (set_of w.reached) down_of ∙ sym (ap does (told.1 (length xs)));
+      held = some_held ys;
+      long = d.long;
     }
 
-    pub visits_down : (t : ℕ) → o.turn ≡ Down t → 1 ≤ x.level → (m'' : Mem) (zs : List ℕ) (r : Walk)
-        → Walked ws p t (x.level - 1) x.va m' xs o.state m'' zs r → Visits ws p x m xs w m'' zs r
-    visits_down t q h m'' zs r d = record {
+  -- a pointer that is opened
+  module _ (m' : Mem) (v' : Reached) where
+    pub visits_done : Opens p x m w.reached m' v' (Ok None) → Held xs w.store → Visits ws p x m xs w m' xs (Ok (walk_of v' w.store))
+    visits_done opens held = record { step = opens.step ws xs w.store down_of; held = held; long = refl }
+
+    pub visits_refused : (r : Refusal) → Opens p x m w.reached m' v' (Err r) → Visits ws p x m xs w m' xs (Err r)
+    visits_refused r opens = record { step = opens.step ws xs w.store down_of; held = some_held xs; long = refl }
+
+    pub visits_down : (t : ℕ) → Opens p x m w.reached m' v' (Ok (Some t)) → (m'' : Mem) (zs : List ℕ) (r : Result Walk Refusal)
+        → Walked ws p t (x.level - 1) x.va m' xs (walk_of v' w.store) m'' zs r → Visits ws p x m xs w m'' zs r
+    visits_down t opens m'' zs r d = record {
       step = d.step
-          ∙ ap (λ (l : ℕ). walk_table (plan_of p ws (length xs)) l x.va t (view m' xs o.state)) (up x.level h)
-          ∙ ap (λ (u : Turn). opens_to down_of u m' xs o.state) (sym q) ∙ opens.step ws xs down_of;
+          ∙ ap (λ (l : ℕ). walk_table (plan_of p ws (length xs)) l x.va t (view m' xs (walk_of v' w.store))) (up x.level opens.fits.1)
+          ∙ opens.step ws xs w.store down_of;
       held = d.held;
       long = d.long;
     }
@@ -143,31 +130,29 @@ pub record Turning (ws : List ℕ) (p : Plan) (t l a : ℕ) (out₀ xs₀ : List
   pub low : i ≤ 512
   pub bytes : length out ≡ length out₀
   pub scratch : length xs ≡ length xs₀
-  pub runs : Runs w
   pub held : Held xs w.store
   pub step : times (512 - i) (turn_of ws p (length xs₀) t l a) i (view (words_of out) xs w)
       ≡ walk_table (plan_of p ws (length xs₀)) (suc l) a t (view (words_of out₀) xs₀ w₀)
 
-pub begin : (ws : List ℕ) (p : Plan) (t l a : ℕ) (out₀ xs₀ : List ℕ) (w₀ : Walk) → Runs w₀ → Held xs₀ w₀.store
+pub begin : (ws : List ℕ) (p : Plan) (t l a : ℕ) (out₀ xs₀ : List ℕ) (w₀ : Walk) → Held xs₀ w₀.store
     → Turning ws p t l a out₀ xs₀ w₀ out₀ xs₀ w₀ 0
 unfolding walk_table
-begin ws p t l a out₀ xs₀ w₀ runs held = record { low = omega arith; bytes = refl; scratch = refl; runs = runs; held = held; step = refl }
+begin ws p t l a out₀ xs₀ w₀ held = record { low = omega arith; bytes = refl; scratch = refl; held = held; step = refl }
 
 module _ {ws : List ℕ} {p : Plan} {t l a : ℕ} {out₀ xs₀ : List ℕ} {w₀ : Walk} {out xs : List ℕ} {w : Walk} {i : ℕ}
     (turning : Turning ws p t l a out₀ xs₀ w₀ out xs w i) where
-  pub over : 512 ≤ i → Walked ws p t l a (words_of out₀) xs₀ w₀ (words_of out) xs w
+  pub over : 512 ≤ i → Walked ws p t l a (words_of out₀) xs₀ w₀ (words_of out) xs (Ok w)
   unfolding times
   over h =
       let none : 512 - i ≡ 0 = omega arith in
       record {
-        step = outcome_go (words_of out) xs w turning.runs
-            ∙ ap (λ (n : ℕ). times n (turn_of ws p (length xs₀) t l a) i (view (words_of out) xs w)) (sym none) ∙ turning.step;
+        step = ap (λ (n : ℕ). times n (turn_of ws p (length xs₀) t l a) i (view (words_of out) xs w)) (sym none) ∙ turning.step;
         held = turning.held;
         long = turning.scratch;
       }
 
   -- entry i is visited, and leaves the words m'
-  module _ (h : i < 512) {x : Spot} (at : x ≡ entry_at (words_of out) t l a i) {m' : Mem} {ys : List ℕ} {r : Walk}
+  module _ (h : i < 512) {x : Spot} (at : x ≡ entry_at (words_of out) t l a i) {m' : Mem} {ys : List ℕ} {r : Result Walk Refusal}
       (visits : Visits ws p x (words_of out) xs w m' ys r) where
     abbrev turn : ℕ → State → Step State
     turn = turn_of ws p (length xs₀) t l a
@@ -192,33 +177,28 @@ module _ {ws : List ℕ} {p : Plan} {t l a : ℕ} {out₀ xs₀ : List ℕ} {w�
         ap (λ (z : Step State). and_then z later) turn_is
         ∙ ap (λ (n : ℕ). times n turn i (view (words_of out) xs w)) (sym more) ∙ turning.step
 
-    pub again : Runs r → (out' : List ℕ) → m' ≡ words_of out' → length out' ≡ length out → Turning ws p t l a out₀ xs₀ w₀ out' ys r (i + 1)
+    pub stops : {e : Refusal} → r ≡ Err e → Walked ws p t l a (words_of out₀) xs₀ w₀ m' ys (Err e)
     unfolding and_then
-    again runs out' e long =
+    stops {e} q =
+        let at : and_then (outcome m' ys (Err e)) later ≡ walk_table (plan_of p ws (length xs₀)) (suc l) a t (view (words_of out₀) xs₀ w₀) = rw q at rest in
+        record { step = at; held = some_held ys; long = visits.long ∙ turning.scratch }
+
+    pub again : {u : Walk} → r ≡ Ok u → (out' : List ℕ) → m' ≡ words_of out' → length out' ≡ length out → Turning ws p t l a out₀ xs₀ w₀ out' ys u (i + 1)
+    unfolding and_then
+    again {u} q out' e long =
         let next : i + 1 ≡ suc i = omega arith in
+        let at : and_then (outcome m' ys (Ok u)) later ≡ walk_table (plan_of p ws (length xs₀)) (suc l) a t (view (words_of out₀) xs₀ w₀) = rw q at rest in
         record {
           low = omega arith;
           bytes = long ∙ turning.bytes;
           scratch = visits.long ∙ turning.scratch;
-          runs = runs;
-          held = visits.held;
-          step = ap₂ (λ (n : ℕ) (m : Mem). times (512 - (i + 1)) turn n (view m ys r)) next (sym e)
-              ∙ ap (λ (z : Step State). and_then z later) (sym (outcome_go m' ys r runs)) ∙ rest;
-        }
-
-    pub stops : (Runs r → ⊥) → Walked ws p t l a (words_of out₀) xs₀ w₀ m' ys r
-    unfolding and_then
-    stops f =
-        let stop : outcome m' ys r ≡ stopped r.refusal = outcome_stop m' ys r f in
-        record {
-          step = stop ∙ ap (λ (z : Step State). and_then z later) (sym stop) ∙ rest;
-          held = visits.held;
-          long = visits.long ∙ turning.scratch;
+          held = subst (LeavesHeld ys) q visits.held;
+          step = ap₂ (λ (n : ℕ) (m : Mem). times (512 - (i + 1)) turn n (view m ys u)) next (sym e) ∙ at;
         }
 
 -- ---- the beginning
 
-pub first_is : (ws : List ℕ) (p : Plan) (t : ℕ) (m : Mem) (xs : List ℕ) (w : Walk) (m' : Mem) (ys : List ℕ) (r : Walk)
+pub first_is : (ws : List ℕ) (p : Plan) (t : ℕ) (m : Mem) (xs : List ℕ) (w : Walk) (m' : Mem) (ys : List ℕ) (r : Result Walk Refusal)
     → set_of w.reached ≡ mark no_tables t → Empty w.store → Walked ws p t p.geometry.top 0 m xs w m' ys r
     → FirstWalked ws p t m (length xs) m' ys r
 first_is ws p t m xs w m' ys r es e d = record {

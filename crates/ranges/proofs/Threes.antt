@@ -1,12 +1,14 @@
 -- The lent words in threes, and what the rules say of each range.
 -- Assumes nothing.
-use mathlib.Core.Path.{◌≡◌, refl, ap, ◌∙◌}
+use mathlib.Core.Path.{◌≡◌, refl, sym, ap, ◌∙◌}
 use mathlib.Core.Bool.{true, not, ◌&&◌}
-use mathlib.Core.List.{List, [], ◌∷◌}
-use Prim.Native.Nat.{ℕ, suc, ◌+◌, ◌-◌, ◌%◌, ◌≤◌, ◌<◌}
+use mathlib.Core.List.{List, [], ◌∷◌, map}
+use Prim.Native.Nat.{ℕ, zero, suc, ◌+◌, ◌/◌, ◌≤◌, ◌<◌}
+use native.Mathlib.Numerals.{add-one}
 use native.Mathlib.Omega.{arith}
 use lib.Dec.{ltb, leb}
-use lib.ListN.{length, get_or, drop, length-drop}
+use lib.ListN.{length, get_or, drop, drop_of_length-le}
+use Rattle.std.specs.Simd.{first_chunks}
 use lib.Seq.{drop-cons}
 use borrow.Author.Tests.{leb-true, ltb-true}
 use Rattle.definitions.specs.Inputs.{Range}
@@ -15,59 +17,35 @@ use Rattle.definitions.proofs.Answers.{and_l, and_r}
 use Rattle.definitions.specs.declared.Region.{Region}
 use Rattle.ranges.specs.Lists.{range}
 
--- ---- a scan over the words
-
--- a range begins at word i, or the words end there
-pub record Third (ws : List ℕ) (i : ℕ) : Type 0 where
-  pub whole : length ws % 3 ≡ 0
-  pub third : i % 3 ≡ 0
-  pub low : i ≤ length ws
-
-module _ {ws : List ℕ} {i : ℕ} (at : Third ws i) (more : i < length ws) where
-  pub inside : i + 2 < length ws
-  inside = omega arith
-
-  pub next : Third ws (i + 3)
-  next = record { whole = at.whole; third = omega arith; low = omega arith }
-
 -- ---- the ranges
 
--- the range at word i
-abbrev pub range_in : List ℕ → ℕ → Range
-range_in ws i = range (get_or ws i 0) (get_or ws (i + 1) 0) (get_or ws (i + 2) 0)
+-- the range that three words are
+abbrev pub range_in : List ℕ → Range
+range_in c = range (get_or c 0 0) (get_or c 1 0) (get_or c 2 0)
 
--- the ranges from word i on
-abbrev pub from : List ℕ → ℕ → List Range
-from ws i = ranges_of (drop i ws)
+-- the ranges from the i-th three words on
+abbrev pub from : List (List ℕ) → ℕ → List Range
+from cs i = map range_in (drop i cs)
 
-pub from_cons : (ws : List ℕ) (i : ℕ) → i + 2 < length ws → from ws i ≡ range_in ws i ∷ from ws (i + 3)
+-- the words in threes are the ranges, whatever is left over
+pub in_threes : (ws : List ℕ) (k : ℕ) → length ws / 3 ≡ k → ranges_of ws ≡ map range_in (first_chunks 3 k ws)
 unfolding ranges_of
-from_cons ws i h =
-    ap ranges_of
-    (drop-cons ws i 0 (omega arith)
-    ∙ ap (λ (l : List ℕ). get_or ws i 0 ∷ l) (ap (λ (k : ℕ). drop k ws) one ∙ drop-cons ws (i + 1) 0 (omega arith)
-    ∙ ap (λ (l : List ℕ). get_or ws (i + 1) 0 ∷ l) (ap (λ (k : ℕ). drop k ws) two ∙ drop-cons ws (i + 2) 0 h
-    ∙ ap (λ (l : List ℕ). get_or ws (i + 2) 0 ∷ l) (ap (λ (k : ℕ). drop k ws) three))))
-  where
-    one : suc i ≡ i + 1
-    one = omega arith
+in_threes [] zero e = refl
+in_threes [] (suc k) e = absurd (omega (arith, e))
+in_threes (a ∷ []) zero e = refl
+in_threes (a ∷ []) (suc k) e = absurd (omega (arith, e))
+in_threes (a ∷ b ∷ []) zero e = refl
+in_threes (a ∷ b ∷ []) (suc k) e = absurd (omega (arith, e))
+in_threes (a ∷ b ∷ c ∷ ws) zero e = absurd (omega (arith, e))
+in_threes (a ∷ b ∷ c ∷ ws) (suc k) e = ap (λ (rs : List Range). range a b c ∷ rs) (in_threes ws k (omega (arith, e)))
 
-    two : suc (i + 1) ≡ i + 2
-    two = omega arith
+pub from_cons : (cs : List (List ℕ)) (i : ℕ) → i < length cs → from cs i ≡ range_in (get_or cs i []) ∷ from cs (i + 1)
+from_cons cs i h =
+    ap (map range_in) (drop-cons cs i [] h)
+    ∙ ap (λ (k : ℕ). range_in (get_or cs i []) ∷ from cs k) (sym (add-one i))
 
-    three : suc (i + 2) ≡ i + 3
-    three = omega arith
-
-pub from_none : (ws : List ℕ) (i : ℕ) → length ws ≤ i → from ws i ≡ []
-unfolding ranges_of
-from_none ws i h = none (drop i ws) (length-drop i ws ∙ zero_left)
-  where
-    zero_left : length ws - i ≡ 0
-    zero_left = omega arith
-
-    none : (l : List ℕ) → length l ≡ 0 → ranges_of l ≡ []
-    none [] e = refl
-    none (x ∷ l) e = absurd (omega arith)
+pub from_none : (cs : List (List ℕ)) (i : ℕ) → length cs ≤ i → from cs i ≡ []
+from_none cs i h = ap (map range_in) (drop_of_length-le cs h)
 
 -- ---- the rules
 

@@ -1,6 +1,6 @@
 -- What the promises allow is one outcome: eight 64-bit words that hold the same set are the same words.
 -- Assumes nothing.
-use mathlib.Core.Path.{◌≡◌, refl, sym, ap, ap₂, ◌∙◌}
+use mathlib.Core.Path.{◌≡◌, refl, sym, ap, ◌∙◌}
 use mathlib.Core.Bool.{Bool, true, false}
 use mathlib.Core.List.{List}
 use Prim.Native.Nat.{ℕ, zero, suc, ◌+◌, ◌*◌, ◌/◌, ◌%◌, ◌^◌, ◌<◌}
@@ -14,7 +14,6 @@ use Rattle.reached.specs.Held.{bit, bits, set_of, marked}
 use Rattle.reached.specs.Promises.{Empty, Asks, Marks, MarksAndAsks, Counts}
 use Rattle.reached.proofs.Laws.{bit_at}
 use Rattle.reached.specs.declared.Reached.{Reached}
-use Rattle.reached.specs.declared.Marked.{Marked}
 
 -- what a [u64; 8] is
 pub record Words (ws : List ℕ) : Type 0 where
@@ -69,16 +68,11 @@ module _ (r s : Reached) (w : Words r.words) (v : Words s.words) where
   pub one_mark : (x : Reached) (i : ℕ) → Marks x i r → Marks x i s → r ≡ s
   one_mark x i = one_set (marked (set_of x) i)
 
+  pub one_mark_and_ask : (x : Reached) (i : ℕ) (a b : Bool) → MarksAndAsks x i r a → MarksAndAsks x i s b → (r ≡ s) × (a ≡ b)
+  one_mark_and_ask x i a b p q = (one_mark x i p.0 q.0, p.1 ∙ sym q.1)
+
 pub one_ask : (x : Reached) (i : ℕ) (r s : Bool) → Asks x i r → Asks x i s → r ≡ s
 one_ask x i r s p q = p ∙ sym q
-
-pub one_mark_and_ask : (x : Reached) (i : ℕ) (r s : Marked) → Words r.set.words → Words s.set.words
-    → MarksAndAsks x i r → MarksAndAsks x i s → r ≡ s
-one_mark_and_ask x i r s w v p q =
-    ap₂ both (one_mark r.set s.set w v x i p.0 q.0) (one_ask x i r.was s.was p.1 q.1)
-  where
-    both : Reached → Bool → Marked
-    both t a = record { set = t; was = a }
 
 pub one_count : (x : Reached) (r s : ℕ) → Counts x r → Counts x s → r ≡ s
 one_count x r s p q = p.0 ∙ sym q.0

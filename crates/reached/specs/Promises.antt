@@ -4,7 +4,6 @@ use Rattle.std.specs.Prelude.{◌≡◌, Bool, ℕ, ◌≤◌}
 use Rattle.definitions.specs.Words.{no_tables, count}
 use Rattle.reached.specs.Held.{set_of, marked}
 use Rattle.reached.specs.declared.Reached.{Reached}
-use Rattle.reached.specs.declared.Marked.{Marked}
 
 -- r is the set of no table
 abbrev pub Empty : Reached → Type 0
@@ -18,9 +17,9 @@ Asks s i r = r ≡ set_of s i
 abbrev pub Marks : Reached → ℕ → Reached → Type 0
 Marks s i r = set_of r ≡ marked (set_of s) i
 
--- both of them
-abbrev pub MarksAndAsks : Reached → ℕ → Marked → Type 0
-MarksAndAsks s i r = Marks s i r.set × Asks s i r.was
+-- after is s with table i, and r is whether it was in s
+abbrev pub MarksAndAsks : Reached → ℕ → Reached → Bool → Type 0
+MarksAndAsks s i after r = Marks s i after × Asks s i r
 
 -- r is how many tables are in s
 abbrev pub Counts : Reached → ℕ → Type 0

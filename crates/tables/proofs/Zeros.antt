@@ -1,24 +1,22 @@
--- A loop over bytes xs that has come to place i, all zeros before it: what is left tells of the whole.
+-- Bytes that are all zero, and whether they are.
 -- Assumes nothing.
-use mathlib.Core.Bool.{true, false}
-use mathlib.Core.List.{List}
-use mathlib.Core.Path.{◌≡◌}
-use Prim.Native.Nat.{ℕ, ◌+◌, ◌≤◌, ◌<◌}
-use native.Mathlib.Numerals.{add-one}
-use borrow.Author.Tests.{eq-eqb, ne_eqb}
-use lib.ListN.{length, get_or, drop, drop_of_length-le}
-use lib.Seq.{drop-cons}
+use Rattle.std.proofs.Common.{◌≡◌, ◌≢◌, ◌<◌, ℕ, List, Bool, true, false, cond, ◌&&◌, eqb, length, refl, arith}
+use Rattle.std.specs.Bool.{Decides, MatchBool}
+use Rattle.std.specs.List.{All, AllWithin, HoldsAt}
+use Rattle.std.proofs.lemmas.Bool.Decides.{same_from_decides, Decides-by_and, Decides-eqb}
 use Rattle.tables.specs.Meaning.{all_zero}
 
-module _ (xs : List ℕ) (i : ℕ) where
-  pub more : i < length xs → get_or xs i 0 ≡ 0 → all_zero (drop (i + 1) xs) ≡ all_zero (drop i xs)
-  unfolding all_zero
-  more h z = rw (add-one, drop-cons xs i 0 h, eq-eqb (get_or xs i 0) 0 z)
+both : (b s : Bool) → cond b s false ≡ (b && s)
+both true s = refl
+both false s = refl
 
-  pub stops : i < length xs → ¬ (get_or xs i 0 ≡ 0) → all_zero (drop i xs) ≡ false
-  unfolding all_zero
-  stops h n = rw (drop-cons xs i 0 h, ne_eqb (get_or xs i 0) 0 n)
+told : (xs : List ℕ) (r : Bool) → MatchBool r (AllWithin (λ x. x ≡ 0) xs 0 (length xs)) ((k : ℕ) × (k < length xs) × HoldsAt (λ x. x ≢ 0) xs k) → Decides r (All (λ x. x ≡ 0) xs)
+told xs true h = (λ e k d l. h k d (omega arith) l, λ a. refl)
+told xs false h = (λ e. cc, λ a. absurd (h.2 0 (a h.0 0 h.1)))
 
-  pub ends : length xs ≤ i → all_zero (drop i xs) ≡ true
-  unfolding all_zero
-  ends h = rw (drop_of_length-le xs h)
+-- r says whether each byte is 0
+pub zeros : (xs : List ℕ) (r : Bool) → MatchBool r (AllWithin (λ x. x ≡ 0) xs 0 (length xs)) ((k : ℕ) × (k < length xs) × HoldsAt (λ x. x ≢ 0) xs k) → r ≡ all_zero xs
+unfolding all_zero
+zeros xs r h =
+    same_from_decides r (all_zero xs) (told xs r h)
+    (Decides-by_and (λ x. eqb x 0) (λ x. x ≡ 0) all_zero (λ x. Decides-eqb x 0) refl (λ x ys. both (eqb x 0) (all_zero ys)) xs)

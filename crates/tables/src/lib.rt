@@ -5,13 +5,15 @@ ghost use Rattle.std.specs.Prelude.{◌≡◌};
 ghost use Rattle.tables.specs.Meaning.{word_at, Written, all_zero};
 
 // The word k, or 0 past the end.
+#[tactic(auto, unfolding(crate::specs::Meaning::word_at))]
 pub fn word_at(bytes: &[u8], k: usize) -> u64
     ensures { result ≡ word_at bytes.now k }
 {
     if k < bytes.len() / 8 {
-        return words::read_word(bytes, k);
+        words::read_word(bytes, k)
+    } else {
+        0
     }
-    0
 }
 
 // Puts a word at place k; past the end, nothing.
@@ -27,12 +29,5 @@ pub fn put(bytes: &mut [u8], k: usize, word: u64)
 pub fn blank(bytes: &[u8]) -> bool
     ensures { result ≡ all_zero bytes.now }
 {
-    let mut i: usize = 0;
-    while i < bytes.len() {
-        if bytes[i] != 0 {
-            return false;
-        }
-        i += 1;
-    }
-    true
+    bytes.iter().all(|byte| *byte == 0)
 }

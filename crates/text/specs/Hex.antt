@@ -1,9 +1,6 @@
 -- What a text says: a number in hexadecimal, or nothing.
 -- Assumes nothing.
-use Rattle.std.specs.Prelude.{ℕ, ◌+◌, ◌-◌, ◌*◌, ◌%◌, ◌^◌, Bool, false, cond, List, [], ◌∷◌, length, drop, ◌==◌, nat_le, nat_lt, slice_index}
-use Rattle.std.proofs.Math.Option.{Option, none, some}
-use Rattle.text.specs.declared.Number.{Number}
-use Rattle.text.specs.declared.Number.TheVariants.{Value, Bad}
+use Rattle.std.specs.Prelude.{ℕ, ◌+◌, ◌-◌, ◌*◌, ◌%◌, ◌^◌, Bool, false, cond, List, [], ◌∷◌, length, drop, ◌==◌, nat_le, nat_lt, slice_index, Option, None, Some}
 
 -- what a byte counts: 0 to 9, A to F or a to f; 16 for any other
 unfoldable pub digit_of : ℕ → ℕ
@@ -17,13 +14,13 @@ digit_of b =
 
 -- the value of digits that follow others worth v, however many there are
 unfoldable pub follow : ℕ → List ℕ → Option ℕ
-follow v [] = some v
-follow v (b ∷ s) = cond (nat_lt 15 (digit_of b)) none (follow (v * 16 + digit_of b) s)
+follow v [] = Some v
+follow v (b ∷ s) = cond (nat_lt 15 (digit_of b)) None (follow (v * 16 + digit_of b) s)
 
 -- a value that is at most a bound
 unfoldable pub at_most : ℕ → Option ℕ → Option ℕ
-at_most most none = none
-at_most most (some v) = cond (nat_le v most) (some v) none
+at_most most None = None
+at_most most (Some v) = cond (nat_le v most) (Some v) None
 
 -- digits, worth less than 2^64
 unfoldable pub digits_of : List ℕ → Option ℕ
@@ -35,17 +32,17 @@ prefixed_of s = cond (nat_le (length s) 2) false (cond (slice_index s 0 == 48) (
 
 -- after 0x, or from the start
 unfoldable pub hex_of : List ℕ → Option ℕ
-hex_of s = cond (length s == 0) none (cond (prefixed_of s) (digits_of (drop 2 s)) (digits_of s))
+hex_of s = cond (length s == 0) None (cond (prefixed_of s) (digits_of (drop 2 s)) (digits_of s))
 
 -- the word that, with a magnitude added, is 0 modulo 2^64
 unfoldable pub negated : Option ℕ → Option ℕ
-negated none = none
-negated (some m) = some ((2 ^ 64 - m) % 2 ^ 64)
+negated None = None
+negated (Some m) = Some ((2 ^ 64 - m) % 2 ^ 64)
 
 -- after '-' a magnitude of at most 2^63, in two's complement
 unfoldable pub signed_of : List ℕ → Option ℕ
 signed_of s =
-    cond (length s == 0) none
+    cond (length s == 0) None
     (cond (slice_index s 0 == 45) (negated (at_most (2 ^ 63) (hex_of (drop 1 s)))) (hex_of s))
 
 -- 0x, and more follows, after '-' too
@@ -53,8 +50,3 @@ unfoldable pub marked_of : List ℕ → Bool
 marked_of s =
     cond (length s == 0) false
     (cond (slice_index s 0 == 45) (prefixed_of (drop 1 s)) (prefixed_of s))
-
--- the code's answer as a number or nothing
-abbrev pub number_of : Number → Option ℕ
-number_of (Value v) = some v
-number_of Bad = none

@@ -1,123 +1,76 @@
 // Numbers as people write them: hexadecimal, with or without 0x.
 #![tactic(auto)]
 
-ghost use Rattle.std.specs.Prelude.{◌≡◌};
-ghost use Rattle.text.specs.Hex.{digit_of, digits_of, hex_of, signed_of, prefixed_of, marked_of, number_of};
+ghost use Rattle.std.specs.Prelude.{◌≡◌, ◌≤◌, MatchOption};
+ghost use Rattle.text.specs.Hex.{digit_of, digits_of, hex_of, signed_of, prefixed_of, marked_of};
 
-// What a text says: a number below 2^64, or none.
-#[derive(Clone, Copy)]
-pub enum Number {
-    Value(u64),
-    Bad,
-}
-
-// A byte as a word.
-fn wide(x: u8) -> u64
-    ensures { result ≡ x }
+// What a digit counts; none for any other byte.
+#[tactic(auto, using(std::proofs::lemmas::Bool::Decides::nat_tests), unfolding(crate::specs::Hex::digit_of))]
+fn digit(byte: u8) -> Option<u64>
+    ensures { MatchOption result (digit_of byte ≡ 16) (λ d. (d ≡ digit_of byte) × (d ≤ 15)) }
 {
-    x as u64
-}
-
-// What a digit counts, or 16 for any other byte.
-fn digit(b: u8) -> u64
-    ensures { result ≡ digit_of b }
-{
-    if b < 48 {
-        return 16;
+    match byte {
+        b'0'..=b'9' => Some(u64::from(byte - b'0')),
+        b'A'..=b'F' => Some(u64::from(byte - b'A') + 10),
+        b'a'..=b'f' => Some(u64::from(byte - b'a') + 10),
+        _ => None,
     }
-    if b < 58 {
-        return wide(b - 48);
-    }
-    if b < 65 {
-        return 16;
-    }
-    if b < 71 {
-        return wide(b - 55);
-    }
-    if b < 97 {
-        return 16;
-    }
-    if b < 103 {
-        return wide(b - 87);
-    }
-    16
 }
 
 // The value of a run of digits below 2^64.
-fn digits(s: &[u8]) -> Number
-    ensures { number_of result ≡ digits_of s.now }
+fn digits(s: &[u8]) -> Option<u64>
+    ensures { result ≡ digits_of s.now }
 {
-    let mut v: u64 = 0;
-    let mut i: usize = 0;
-    while i < s.len() {
-        let d = digit(s[i]);
-        if 15 < d {
-            return Number::Bad;
-        }
-        if 0xFFF_FFFF_FFFF_FFFF < v {
-            return Number::Bad;
-        }
-        v = v * 16 + d;
-        i += 1;
+    let mut value: u64 = 0;
+    for byte in s {
+        let counts = digit(*byte)?;
+        value = value.checked_mul(16)? + counts;
     }
-    Number::Value(v)
+    Some(value)
 }
 
 // Whether a text is 0x with more after it.
+#[tactic(auto, using(std::proofs::lemmas::Bool::Decides::nat_tests), unfolding(crate::specs::Hex::prefixed_of))]
 fn prefixed(s: &[u8]) -> bool
     ensures { result ≡ prefixed_of s.now }
 {
-    if s.len() <= 2 {
-        return false;
-    }
-    if s[0] != b'0' {
-        return false;
-    }
-    s[1] == b'x'
+    matches!(s, [b'0', b'x', _, ..])
 }
 
 // A number below 2^64 in hexadecimal.
-pub fn parse_hex(s: &[u8]) -> Number
-    ensures { number_of result ≡ hex_of s.now }
+#[tactic(auto, using(std::proofs::lemmas::Bool::Decides::nat_tests, crate::proofs::Values::rest), unfolding(crate::specs::Hex::hex_of, crate::specs::Hex::prefixed_of))]
+pub fn parse_hex(s: &[u8]) -> Option<u64>
+    ensures { result ≡ hex_of s.now }
 {
-    if s.len() == 0 {
-        return Number::Bad;
+    match s {
+        [] => None,
+        [_, _, rest @ ..] if prefixed(s) => digits(rest),
+        _ => digits(s),
     }
-    if prefixed(s) {
-        return digits(&s[2..]);
-    }
-    digits(s)
 }
 
 // A number as parse_hex reads it, or one to -2^63 after '-', as a word in two's complement.
-pub fn parse_signed(s: &[u8]) -> Number
-    ensures { number_of result ≡ signed_of s.now }
+#[tactic(auto, using(std::proofs::lemmas::Bool::Decides::nat_tests, crate::proofs::Values::rest), unfolding(crate::specs::Hex::signed_of, crate::specs::Hex::hex_of, crate::specs::Hex::negated, crate::specs::Hex::at_most))]
+pub fn parse_signed(s: &[u8]) -> Option<u64>
+    ensures { result ≡ signed_of s.now }
 {
-    if s.len() == 0 {
-        return Number::Bad;
-    }
-    if s[0] != b'-' {
+    let [b'-', rest @ ..] = s else {
         return parse_hex(s);
-    }
-    let read = parse_hex(&s[1..]);
-    let Number::Value(m) = read else {
-        return Number::Bad;
     };
-    if 0x8000_0000_0000_0000 < m {
-        return Number::Bad;
+    let magnitude = parse_hex(rest)?;
+    if magnitude > 0x8000_0000_0000_0000 {
+        return None;
     }
-    Number::Value(std::num::wrapping_sub_u64(0, m))
+    Some(magnitude.wrapping_neg())
 }
 
 // Whether a text says by 0x that it is hexadecimal, after '-' too.
+#[tactic(auto, using(std::proofs::lemmas::Bool::Decides::nat_tests), unfolding(crate::specs::Hex::marked_of, crate::specs::Hex::prefixed_of))]
 pub fn marked(s: &[u8]) -> bool
     ensures { result ≡ marked_of s.now }
 {
-    if s.len() == 0 {
-        return false;
+    match s {
+        [b'-', rest @ ..] => prefixed(rest),
+        _ => prefixed(s),
     }
-    if s[0] != b'-' {
-        return prefixed(s);
-    }
-    prefixed(&s[1..])
 }

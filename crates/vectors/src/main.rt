@@ -3,8 +3,9 @@
 #![tactic(auto)]
 
 use archwend::entries;
+use arrayvec::ArrayVec;
 use build::CpuPagingState;
-use definitions::Region;
+use definitions::{Place, Refusal, Region};
 use std::io::Read;
 use std::{fs, io};
 
@@ -12,392 +13,303 @@ const IMAGE: usize = 0x8000;
 
 const OUTPUT: usize = 0x20000;
 
-// What a line is, by its first word; data/README has the other words.
-const REGION_LINE: u64 = 1;
+const SCRATCH: usize = 3000;
 
-const IMAGE_LINE: u64 = 2;
+const RANGE_WORDS: usize = 63;
 
-const RANGE_LINE: u64 = 3;
-
-const CPU_LINE: u64 = 4;
-
-const BUILD_LINE: u64 = 5;
-
-const OUTPUT_LINE: u64 = 6;
-
-const BLANK_LINE: u64 = 7;
-
-const LOAD_LINE: u64 = 8;
-
-const FRESH_LINE: u64 = 9;
-
-const SET_LINE: u64 = 10;
-
-const INDEX_LINE: u64 = 11;
-
-const READ_LINE: u64 = 12;
-
-const MASK_LINE: u64 = 13;
-
-const PLACE_LINE: u64 = 14;
-
-const BITS_LINE: u64 = 15;
-
-const CLEAR_LINE: u64 = 16;
-
-const SIZE_LINE: u64 = 17;
-
-const TABLE_LINE: u64 = 18;
-
-// Where the registers are: 0 to 3 the line's words, 4 the word being read.
-const AT: usize = 4;
-
-const GPA: usize = 5;
-
-const SIZE: usize = 6;
-
-const USED: usize = 7;
-
-const CR3: usize = 8;
-
-const CR4: usize = 9;
-
-const TABLE_OFFSET: usize = 10;
-
-const RANGE_WORDS: usize = 11;
-
-const ANSWERS: usize = 12;
-
-const DIFFERENT: usize = 13;
-
-const PLACE: usize = 14;
-
-const LEVEL: usize = 15;
-
-const OFFSET: usize = 16;
-
-const REGISTERS: usize = 17;
-
-fn wide(x: u8) -> u64 {
-    x as u64
+// What a line is; data/README has the words after the first.
+#[derive(Clone, Copy)]
+enum Line {
+    Region,
+    Image,
+    Range,
+    Cpu,
+    Build,
+    Output,
+    Blank,
+    Load,
+    Fresh,
+    Set,
+    Index,
+    Read,
+    Mask,
+    Place,
+    Bits,
+    Clear,
+    Size,
+    Table,
 }
 
-fn wide_mask(x: u32) -> u64 {
-    x as u64
-}
+// By its first word.
+impl TryFrom<u64> for Line {
+    type Error = u64;
 
-// Counts one answer more, and whether it differs.
-fn count(same: bool, v: &mut [u64; REGISTERS]) {
-    v[ANSWERS] = v[ANSWERS].wrapping_add(1);
-    if !same {
-        v[DIFFERENT] = v[DIFFERENT].wrapping_add(1);
-    }
-}
-
-fn region(v: &[u64; REGISTERS]) -> Region {
-    Region {
-        gpa: v[GPA],
-        size: v[SIZE],
-        used: v[USED],
-    }
-}
-
-fn set(list: &mut [u64], i: usize, x: u64) {
-    if i < list.len() {
-        list[i] = x;
-    }
-}
-
-fn add_range(ranges: &mut [u64], v: &mut [u64; REGISTERS]) {
-    let n = v[RANGE_WORDS] as usize;
-    if n <= 60 {
-        set(ranges, n, v[1]);
-        set(ranges, n + 1, v[2]);
-        set(ranges, n + 2, v[3]);
-        v[RANGE_WORDS] = (n + 3) as u64;
-    }
-}
-
-// The answer to a load of some data at v[1].
-fn loaded(image: &mut [u8], data: &[u8], cr4: u64, v: &[u64; REGISTERS]) -> u64 {
-    archwend::archwend_set_page_data(image, v[GPA], v[SIZE], v[USED], v[1], data, cr4)
-}
-
-// A load of v[2] bytes at v[1], which is to answer v[3] with four levels and with five: the Rust's loads know no cr4, and the
-// recorded regions lie below both bounds.
-fn load(image: &mut [u8], v: &mut [u64; REGISTERS]) {
-    let page = [0x5au8; 8192];
-    let n = v[2] as usize;
-    let used = v[USED] as usize;
-    if n <= 8192 {
-        if used <= image.len() {
-            let four = loaded(&mut image[0..used], &page[0..n], 0, v);
-            let five = loaded(&mut image[0..used], &page[0..n], 0x1000, v);
-            count(four == v[3] && five == v[3], v);
-            return;
+    fn try_from(word: u64) -> Result<Line, u64> {
+        match word {
+            0x1 => Ok(Line::Region),
+            0x2 => Ok(Line::Image),
+            0x3 => Ok(Line::Range),
+            0x4 => Ok(Line::Cpu),
+            0x5 => Ok(Line::Build),
+            0x6 => Ok(Line::Output),
+            0x7 => Ok(Line::Blank),
+            0x8 => Ok(Line::Load),
+            0x9 => Ok(Line::Fresh),
+            0xa => Ok(Line::Set),
+            0xb => Ok(Line::Index),
+            0xc => Ok(Line::Read),
+            0xd => Ok(Line::Mask),
+            0xe => Ok(Line::Place),
+            0xf => Ok(Line::Bits),
+            0x10 => Ok(Line::Clear),
+            0x11 => Ok(Line::Size),
+            0x12 => Ok(Line::Table),
+            _ => Err(word),
         }
     }
-    count(false, v);
 }
 
-// The build, which is to answer v[1], with v[2] bytes of tables and v[3] leaves merged.
-fn run(
-    image: &[u8],
-    output: &mut [u8],
-    scratch: &mut [u64],
-    ranges: &[u64],
-    v: &mut [u64; REGISTERS],
-) {
-    let used = v[USED] as usize;
-    let n = v[RANGE_WORDS] as usize;
-    let r = region(v);
-    let cpu = CpuPagingState {
-        cr3: v[CR3],
-        cr4: v[CR4],
-    };
-    if used <= image.len() {
-        if n <= ranges.len() {
-            let report = build::build(
-                &image[0..used],
-                output,
-                scratch,
-                &ranges[0..n],
-                r,
-                cpu,
-                v[TABLE_OFFSET],
+// What is lent to the operations, what earlier lines have set, and the answers so far.
+#[derive(Drop)]
+struct Replay {
+    image: [u8; IMAGE],
+    output: [u8; OUTPUT],
+    scratch: [u64; SCRATCH],
+    ranges: ArrayVec<u64, RANGE_WORDS>,
+    region: Region,
+    cpu: CpuPagingState,
+    table_offset: u64,
+    // that of the last build
+    place: Place,
+    answers: u64,
+    different: u64,
+}
+
+impl Replay {
+    fn new() -> Replay {
+        let image = [0u8; IMAGE];
+        let output = [0xa5u8; OUTPUT];
+        let scratch = [7u64; SCRATCH];
+        Replay {
+            image,
+            output,
+            scratch,
+            ranges: ArrayVec::new(),
+            region: Region {
+                gpa: 0,
+                size: 0,
+                used: 0,
+            },
+            cpu: CpuPagingState { cr3: 0, cr4: 0 },
+            table_offset: 0,
+            place: Place::none(),
+            answers: 0,
+            different: 0,
+        }
+    }
+
+    // Counts one answer more, and whether it differs.
+    fn count(&mut self, same: bool) {
+        self.answers = self.answers.wrapping_add(1);
+        self.different = self.different.wrapping_add(u64::from(!same));
+    }
+
+    // A region, with an image all zeros and no ranges.
+    fn region_line(&mut self, region: Region) {
+        words::fill_from(&mut self.image, 0, 0);
+        self.region = region;
+        self.ranges.clear();
+    }
+
+    // A range; past the room, nothing.
+    fn range_line(&mut self, range: [u64; 3]) {
+        let _ = self.ranges.try_extend_from_slice(&range);
+    }
+
+    // A load of some bytes at an address, which is to answer a number with four levels and with five: the Rust's loads know no
+    // cr4, and the recorded regions lie below both bounds.
+    fn load_line(&mut self, page_gpa: u64, length: usize, number: u64) {
+        let page = [0x5au8; 8192];
+        let Region { gpa, size, used } = self.region;
+        let image = self.image.get_mut(..used as usize);
+        let mut same = false;
+        if let (Some(image), Some(data)) = (image, page.get(..length)) {
+            let four = archwend::archwend_set_page_data(image, gpa, size, used, page_gpa, data, 0);
+            let five = archwend::archwend_set_page_data(
+                image, gpa, size, used, page_gpa, data, 0x1000,
             );
-            count(report.number == v[1], v);
-            count(report.used == v[2], v);
-            count(report.merged == v[3], v);
-            let place = report.place;
-            v[PLACE] = place.address;
-            v[LEVEL] = place.level;
-            v[OFFSET] = place.offset;
-            return;
+            same = four == number && five == number;
+        }
+        self.count(same);
+    }
+
+    // The build, which is to answer a number, with so many bytes of tables and leaves merged.
+    fn build_line(&mut self, number: u64, used: u64, merged: u64) {
+        let Some(image) = self.image.get(..self.region.used as usize) else {
+            return self.count(false);
+        };
+        let built = build::build(
+            image,
+            &mut self.output,
+            &mut self.scratch,
+            self.ranges.as_slice(),
+            self.region,
+            self.cpu,
+            self.table_offset,
+        );
+        let (answer, place) = match built {
+            Ok(counts) => ((0, counts.used, counts.merged), Place::none()),
+            Err(Refusal { error, place }) => ((error.number(), 0, 0), place),
+        };
+        self.count(answer.0 == number);
+        self.count(answer.1 == used);
+        self.count(answer.2 == merged);
+        self.place = place;
+    }
+
+    // The place of a 12: address, mapped size, offset.
+    fn place_line(&mut self, address: u64, size: u64, offset: u64) {
+        let place = self.place;
+        self.count(place.address == address);
+        self.count(answer(0, |x| entries::archwend_mapping_size(place.level, x)) == (0, size));
+        self.count(place.offset == offset);
+    }
+
+    // An entry of the output. Each word found is taken out, so that nothing may be left at the end.
+    fn output_line(&mut self, k: usize, word: u64) {
+        let same = tables::word_at(&self.output, k) == word;
+        self.count(same);
+        tables::put(&mut self.output, k, 0);
+    }
+
+    // Whether an operation of one answer gives what its line says.
+    fn same(&self, operation: Line, a: u64, b: u64, c: u64) -> bool {
+        let Region { gpa, size, used } = self.region;
+        match operation {
+            Line::Fresh => answer(0, |x| entries::archwend_set_entry(x, a, b)) == (0, c),
+            Line::Set => answer(a, |x| entries::archwend_set_addr(x, b)) == (0, c),
+            Line::Index => answer(0, |x| entries::archwend_get_amd64_pte_index(a, b, x)) == (0, c),
+            Line::Read => answer(0, |x| entries::archwend_gpa(a, x)) == (b, c),
+            Line::Clear => cleared(a) == b,
+            Line::Size => answer(0, |x| entries::archwend_mapping_size(a, x)) == (0, b),
+            Line::Table => {
+                let table = |x: &mut u64| entries::archwend_calculate_page_table_index(
+                    gpa, size, used, a, x,
+                );
+                answer(0, table) == (b, c)
+            }
+            Line::Mask => mask_bit(a, b) == c,
+            _ => false,
         }
     }
-    count(false, v);
+
+    fn line(&mut self, [kind, a, b, c]: [u64; 4]) {
+        match Line::try_from(kind) {
+            Ok(Line::Region) => self.region_line(Region {
+                gpa: a,
+                size: b,
+                used: c,
+            }),
+            Ok(Line::Image) => tables::put(&mut self.image, a as usize, b),
+            Ok(Line::Range) => self.range_line([a, b, c]),
+            Ok(Line::Cpu) => {
+                self.cpu = CpuPagingState { cr3: a, cr4: b };
+                self.table_offset = c;
+            }
+            Ok(Line::Build) => self.build_line(a, b, c),
+            Ok(Line::Output) => self.output_line(a as usize, b),
+            Ok(Line::Blank) => {
+                let same = tables::blank(&self.output);
+                self.count(same);
+            }
+            Ok(Line::Load) => self.load_line(a, b as usize, c),
+            Ok(Line::Place) => self.place_line(a, b, c),
+            Ok(Line::Bits) => {
+                self.count(entries::archwend_is_present(a) == b);
+                self.count(entries::archwend_is_large_page(a) == c);
+            }
+            Ok(operation) => {
+                let same = self.same(operation, a, b, c);
+                self.count(same);
+            }
+            Err(_) => self.count(false),
+        }
+    }
 }
 
-// Whether the entry 0 becomes v[3], a fresh one of kind v[1] for the address v[2].
-fn fresh_same(v: &[u64; REGISTERS]) -> bool {
-    let mut e: u64 = 0;
-    let n = entries::archwend_set_entry(&mut e, v[1], v[2]);
-    n == 0 && e == v[3]
+// What an operation returns, and what it makes of a word.
+fn answer<F: FnOnce(&mut u64) -> u64>(mut word: u64, operation: F) -> (u64, u64)
+    requires { F.IsAlwaysCallable operation }
+{
+    let number = operation(&mut word);
+    (number, word)
 }
 
-// Whether the entry v[1] becomes v[3] where its address is set to v[2].
-fn set_same(v: &[u64; REGISTERS]) -> bool {
-    let mut e: u64 = v[1];
-    let n = entries::archwend_set_addr(&mut e, v[2]);
-    n == 0 && e == v[3]
+fn cleared(mut entry: u64) -> u64 {
+    entries::archwend_clear(&mut entry);
+    entry
 }
 
-// Whether reading the address of v[1] gives v[2], 1 for there being one, and v[3].
-fn read_same(v: &[u64; REGISTERS]) -> bool {
-    let mut gpa: u64 = 0;
-    let n = entries::archwend_gpa(v[1], &mut gpa);
-    n == v[2] && gpa == v[3]
-}
-
-// Whether clearing v[1] gives v[2].
-fn clear_same(v: &[u64; REGISTERS]) -> bool {
-    let mut e: u64 = v[1];
-    entries::archwend_clear(&mut e);
-    e == v[2]
-}
-
-// Whether the address v[1] has the index v[3] at level v[2].
-fn index_same(v: &[u64; REGISTERS]) -> bool {
-    let mut index: u64 = 0;
-    let n = entries::archwend_get_amd64_pte_index(v[1], v[2], &mut index);
-    n == 0 && index == v[3]
-}
-
-// Whether one entry of a level maps so much.
-fn size_same(level: u64, wanted: u64) -> bool {
-    let mut size: u64 = 0;
-    let n = entries::archwend_mapping_size(level, &mut size);
-    n == 0 && size == wanted
-}
-
-// Whether the region's table with the address v[1] is found as v[2] says, 1 for there being one, and is number v[3].
-fn table_same(v: &[u64; REGISTERS]) -> bool {
-    let mut index: u64 = 0;
-    let n = entries::archwend_calculate_page_table_index(
-        v[GPA], v[SIZE], v[USED], v[1], &mut index,
-    );
-    n == v[2] && index == v[3]
-}
-
-// Whether the mask v[1] has the single bit v[3] at place v[2], 0 past its last.
-fn mask_same(v: &[u64; REGISTERS]) -> bool {
+// The single bit of a mask at a place, 0 past its last.
+fn mask_bit(mask: u64, place: u64) -> u64 {
     let mut bits = [0u32; 32];
-    entries::archwend_extract_individual_masks((v[1] % 0x1_0000_0000) as u32, &mut bits);
-    let i = (v[2] % 32) as usize;
-    wide_mask(bits[i]) == v[3]
+    entries::archwend_extract_individual_masks((mask % 0x1_0000_0000) as u32, &mut bits);
+    u64::from(bits[(place % 32) as usize])
 }
 
-fn bits_line(v: &mut [u64; REGISTERS]) {
-    let present = entries::archwend_is_present(v[1]);
-    count(present == v[2], v);
-    let large = entries::archwend_is_large_page(v[1]);
-    count(large == v[3], v);
+// A line as far as it is read: its words, and the place of the one that is read.
+#[derive(Clone, Copy)]
+struct Words {
+    words: [u64; 4],
+    at: usize,
 }
 
-// Whether an operation of one answer gives what its line says.
-fn answer_same(v: &[u64; REGISTERS]) -> bool {
-    match v[0] {
-        FRESH_LINE => fresh_same(v),
-        SET_LINE => set_same(v),
-        READ_LINE => read_same(v),
-        CLEAR_LINE => clear_same(v),
-        INDEX_LINE => index_same(v),
-        SIZE_LINE => size_same(v[1], v[2]),
-        TABLE_LINE => table_same(v),
-        MASK_LINE => mask_same(v),
-        _ => false,
+impl Words {
+    fn new() -> Words {
+        Words {
+            words: [0; 4],
+            at: 0,
+        }
+    }
+
+    // A digit more.
+    fn push(&mut self, c: u8) {
+        let i = self.at % 4;
+        self.words[i] = self.words[i] << 4 | digit(c);
     }
 }
 
-// The place of a 12: address, mapped size, offset.
-fn place_line(v: &mut [u64; REGISTERS]) {
-    count(v[PLACE] == v[1], v);
-    let same = size_same(v[LEVEL], v[2]);
-    count(same, v);
-    count(v[OFFSET] == v[3], v);
-}
-
-// An entry of the output. Each word found is taken out, so that nothing may be left at the end.
-fn output_line(output: &mut [u8], v: &mut [u64; REGISTERS]) {
-    let k = v[1] as usize;
-    let same = tables::word_at(output, k) == v[2];
-    count(same, v);
-    tables::put(output, k, 0);
-}
-
-fn region_line(image: &mut [u8], v: &mut [u64; REGISTERS]) {
-    words::clear(image, 0);
-    v[GPA] = v[1];
-    v[SIZE] = v[2];
-    v[USED] = v[3];
-    v[RANGE_WORDS] = 0;
-}
-
-fn cpu_line(v: &mut [u64; REGISTERS]) {
-    v[CR3] = v[1];
-    v[CR4] = v[2];
-    v[TABLE_OFFSET] = v[3];
-}
-
-fn line(
-    image: &mut [u8],
-    output: &mut [u8],
-    scratch: &mut [u64],
-    ranges: &mut [u64],
-    v: &mut [u64; REGISTERS],
-) {
-    match v[0] {
-        REGION_LINE => region_line(image, v),
-        IMAGE_LINE => tables::put(image, v[1] as usize, v[2]),
-        RANGE_LINE => add_range(ranges, v),
-        CPU_LINE => cpu_line(v),
-        BUILD_LINE => run(image, output, scratch, ranges, v),
-        OUTPUT_LINE => output_line(output, v),
-        BLANK_LINE => {
-            let same = tables::blank(output);
-            count(same, v);
-        }
-        LOAD_LINE => load(image, v),
-        PLACE_LINE => place_line(v),
-        BITS_LINE => bits_line(v),
-        _ => {
-            let same = answer_same(v);
-            count(same, v);
-        }
-    }
-}
-
+// Of any byte: `char::to_digit` would leave those that are no digits without an answer.
 fn digit(c: u8) -> u64 {
-    let x = wide(c);
-    if x < 58 {
-        return x % 16;
-    }
-    x % 16 + 9
+    let x = u64::from(c);
+    if x < 58 { x % 16 } else { (x + 9) % 16 }
 }
 
-fn add_digit(c: u8, v: &mut [u64; REGISTERS]) {
-    let i = (v[AT] % 4) as usize;
-    v[i] = v[i] % 0x1000_0000_0000_0000 * 16 + digit(c) % 16;
-}
-
-// One byte of the file.
-fn feed(
-    c: u8,
-    image: &mut [u8],
-    output: &mut [u8],
-    scratch: &mut [u64],
-    ranges: &mut [u64],
-    v: &mut [u64; REGISTERS],
-) {
-    if c == b' ' {
-        v[AT] = v[AT] % 4 + 1;
-    } else if c == b'\n' {
-        line(image, output, scratch, ranges, v);
-        v[0] = 0;
-        v[1] = 0;
-        v[2] = 0;
-        v[3] = 0;
-        v[AT] = 0;
-    } else {
-        add_digit(c, v);
-    }
-}
-
-fn feed_all(
-    text: &[u8],
-    image: &mut [u8],
-    output: &mut [u8],
-    scratch: &mut [u64],
-    ranges: &mut [u64],
-    v: &mut [u64; REGISTERS],
-) {
-    for c in text {
-        feed(*c, image, output, scratch, ranges, v);
-    }
-}
-
-// Reads some of the file and feeds it; whether there may be more.
-fn some(
-    file: &mut impl Read,
-    image: &mut [u8],
-    output: &mut [u8],
-    scratch: &mut [u64],
-    ranges: &mut [u64],
-    v: &mut [u64; REGISTERS],
-) -> io::Result<bool> {
+// Reads the file to its end. No file is longer than these turns.
+fn read_all(file: &mut impl Read) -> io::Result<Replay> {
+    let mut replay = Replay::new();
+    let mut line = Words::new();
     let mut text = [0u8; 4096];
-    let n = file.read(&mut text)?;
-    feed_all(&text[..n], image, output, scratch, ranges, v);
-    Ok(n > 0)
-}
-
-// No file is longer than these turns.
-fn all(file: &mut impl Read, v: &mut [u64; REGISTERS]) -> io::Result<()> {
-    let mut image = [0u8; IMAGE];
-    let mut output = [0xa5u8; OUTPUT];
-    let mut scratch = [7u64; 3000];
-    let mut ranges = [0u64; 63];
     for _ in 0..u64::MAX {
-        if !some(file, &mut image, &mut output, &mut scratch, &mut ranges, v)? {
+        let n = file.read(&mut text)?;
+        for &c in &text[..n] {
+            match c {
+                b' ' => line.at = line.at % 4 + 1,
+                b'\n' => {
+                    replay.line(line.words);
+                    line = Words::new();
+                }
+                _ => line.push(c),
+            }
+        }
+        if n == 0 {
             break;
         }
     }
-    Ok(())
+    Ok(replay)
 }
 
 fn main(rt: HostRuntime) -> io::Result<()> {
-    let mut v = [0u64; REGISTERS];
     let mut file = match fs::open(&rt, "vectors") {
         Ok(file) => file,
         Err(error) => {
@@ -405,6 +317,6 @@ fn main(rt: HostRuntime) -> io::Result<()> {
             return Ok(());
         }
     };
-    all(&mut file, &mut v)?;
-    println!(rt; "answers {} different {}", v[ANSWERS], v[DIFFERENT])
+    let done = read_all(&mut file)?;
+    println!(rt; "answers {} different {}", done.answers, done.different)
 }

@@ -12,4 +12,4 @@ returns c =
     let r = region_at a.gpa a.size a.used in
     let e =
     c.set_page_data.ensures ∙ ap (λ (g : Geometry). load g r a.image.now a.page_gpa a.data.now) c.geometry_of-geometry.ensures in
-    record { number = ap (λ (l : Loaded). l.number) e; loaded = ap (λ (l : Loaded). l.image) e }
+    record { number = c.number.ensures ∙ ap (λ (l : Loaded). l.number) e; loaded = ap (λ (l : Loaded). l.image) e }

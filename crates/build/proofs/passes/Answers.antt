@@ -1,38 +1,32 @@
--- `build::passes` meets its contract: the plan is made, pass 1 walks it, and pass 2 puts the leaves in, unless one of them refuses.
--- No loop. `Handing` says what each pass is asked and how the passes end; the places are seen from pass 1 and from pass 2.
+-- `build::passes` meets its contract: pass 1 walks the plan, and pass 2 puts the leaves in, unless one of them refuses. No loop.
+-- `Handing` says what each pass is asked and how the passes end.
 -- Assumes nothing.
 use Rattle.build.proofs.Handing.{asked, root_used, ends_first, stored, ends_second, used_fits, ends_go}
-use native.Mathlib.Omega.{arith}
-use mathlib.Core.Path.{refl}
-use borrow.Author.Rules.{rules}
+use Rattle.std.proofs.Common.{refl, arith, rules}
+use Rattle.std.proofs.lemmas.Result.{err_from_is_err_and}
 use Rattle.build.proofs.passes.Goals as goal
 
--- ---- the goals
-pub first_pass-walked-requires : goal.first_pass-walked-requires
-first_pass-walked-requires c =
-    let ready = c.requires.1 in
-    (asked ready c.moved_by-new.ensures, root_used ready c.moved_by-new.ensures)
+pub first_pass-requires : goal.first_pass-requires
+first_pass-requires c = (asked c.requires.1, root_used c.requires.1)
 
-pub returns-then-refusal-ne0 : goal.returns-then-refusal-ne0
-returns-then-refusal-ne0 c j ready = ends_first ready c.moved_by-new.ensures c.first_pass-walked.ensures c.if-refusal-ne0.true
+pub returns-in_err-walked : goal.returns-in_err-walked
+returns-in_err-walked c j ready =
+    let p = err_from_is_err_and c.from_residual.result c.from_residual.ensures.1 in
+    rw (p.1, p.2) (ends_first ready c.first_pass.ensures c.in_err-walked.was)
 
-pub second_pass-filled-requires : goal.second_pass-filled-requires
-second_pass-filled-requires c =
-    stored c.requires.1 c.moved_by-new.ensures c.first_pass-walked.ensures c.if-refusal-ne0.false _ (search rules)
+pub second_pass-requires : goal.second_pass-requires
+second_pass-requires c = stored c.requires.1 c.first_pass.ensures c.in_ok-walked.was _ (search rules)
 
-pub accept-requires : goal.accept-requires
-accept-requires c =
-    let first = c.first_pass-walked.ensures in
-    let fits =
-    used_fits c.requires.1 c.moved_by-new.ensures first c.if-refusal-ne0.false refl c.second_pass-filled.ensures c.in-Go.is in
+pub returns-in_err-fill : goal.returns-in_err-fill
+returns-in_err-fill c j ready =
+    let p = err_from_is_err_and c.from_residual-in_err-fill.result c.from_residual-in_err-fill.ensures.1 in
+    rw (p.1, p.2) (ends_second ready c.first_pass.ensures c.in_ok-walked.was refl c.second_pass.ensures c.in_err-fill.was)
+
+pub count-requires : goal.count-requires
+count-requires c =
+    let fits = used_fits c.requires.1 c.first_pass.ensures c.in_ok-walked.was refl c.second_pass.ensures c.in_ok-fill.was in
+    let first = c.in_ok-walked.ensures in
     (omega (arith, fits), omega (arith, first.held.fits, first.long))
 
-pub returns-in-Stop : goal.returns-in-Stop
-returns-in-Stop c j ready =
-    ends_second ready c.moved_by-new.ensures c.first_pass-walked.ensures c.if-refusal-ne0.false refl c.second_pass-filled.ensures
-    c.in-Stop.is
-
-pub returns-in-Go : goal.returns-in-Go
-returns-in-Go c j ready =
-    ends_go ready c.moved_by-new.ensures c.first_pass-walked.ensures c.if-refusal-ne0.false refl c.second_pass-filled.ensures
-    c.in-Go.is c.accept.ensures
+pub returns : goal.returns
+returns c j ready = ends_go ready c.first_pass.ensures c.in_ok-walked.was refl c.second_pass.ensures c.in_ok-fill.was c.count.ensures

@@ -1,56 +1,52 @@
 -- `compare::list_changes` meets its contract. One loop over the words of both images.
 use Rattle.definitions.specs.Compare.{changes}
 use Rattle.compare.proofs.Come.{begins, same, more, stops, ends}
-use mathlib.Core.Path.{refl}
+use mathlib.Core.Path.{refl, sym, ◌∙◌}
+use Rattle.definitions.proofs.Compare.{comparable_iff, compare_refused, compare_short}
 use Prim.Native.Nat.{◌/◌}
 use lib.ListN.{length}
 use native.Mathlib.Omega.{arith}
+use Rattle.compare.proofs.list_changes.Goals.{then-before-after+else-list-count, else-before-after}
 use Rattle.compare.proofs.list_changes.Goals as goal
 
+pub returns-then-not-lengths_valid : goal.returns-then-not-lengths_valid
+returns-then-not-lengths_valid c =
+    (compare_refused _ _ _ _ _ (sym c.lengths_valid.ensures ∙ c.if-not-lengths_valid.true), refl)
+
 pub loop-k-init : goal.loop-k-init
-loop-k-init c = (begins _ _ _ _ refl, omega arith)
+loop-k-init c = begins _ _ _ _ refl
 
 pub read_word-before-requires : goal.read_word-before-requires
-read_word-before-requires c = omega arith
+read_word-before-requires c =
+    let w = (comparable_iff _ _).0 (sym c.lengths_valid.ensures ∙ c.if-not-lengths_valid.false) in
+    omega (arith, w.equal)
 
-pub read_word-after-requires : goal.read_word-after-requires
-read_word-after-requires c = omega arith
-
-pub overflow_mul-count : goal.overflow_mul-count
-overflow_mul-count c = omega arith
-
-pub overflow_sub-list : goal.overflow_sub-list
-overflow_sub-list c = omega arith
-
-pub returns-then-list-count-lt4 : goal.returns-then-list-count-lt4
+pub returns-then-list-count : goal.returns-then-list-count
 unfolding changes
-returns-then-list-count-lt4 c =
-    let i = c.loop-k.invariant.0 in
-    let newer = c.args.newer.now in (
-      stops _ _ _ i c.read_word-before.ensures c.read_word-after.ensures c.if-before-after.true (omega (arith, i.long))
-          (length newer / 8) (omega arith),
-      i.long,
-    )
-
-pub put_change-requires : goal.put_change-requires
-put_change-requires c = omega arith
-
-pub overflow_add-count : goal.overflow_add-count
-overflow_add-count c = omega arith
-
-pub loop-k-preserved-then-before-after : goal.loop-k-preserved-then-before-after
-loop-k-preserved-then-before-after c =
-    let i = c.loop-k.invariant.0 in
-    let put = c.put_change.ensures in (
-      more _ _ _ i c.read_word-before.ensures c.read_word-after.ensures c.if-before-after.true
-          (omega (arith, i.long)) put,
-      omega arith,
-    )
+returns-then-list-count c =
+    let ok = sym c.lengths_valid.ensures ∙ c.if-not-lengths_valid.false in
+    let i = c.loop-k.invariant in
+    let newer = c.args.newer.now in
+    let short = stops _ _ _ i c.read_word-before.ensures c.read_word-after.ensures c.if-before-after.true (omega (arith, i.long))
+    (length newer / 8) (omega arith) in
+    (compare_short _ _ _ _ _ ok short, i.long)
 
 pub loop-k-preserved : goal.loop-k-preserved
 loop-k-preserved c =
-    (same _ _ _ c.loop-k.invariant.0 c.read_word-before.ensures c.read_word-after.ensures c.if-before-after.false, omega arith)
+    let i = c.loop-k.invariant in
+    elim c.if-before-after.branch [
+      | then-before-after+else-list-count w ↦ (
+          let put = more _ _ _ i c.read_word-before.ensures c.read_word-after.ensures w.if-before-after.true
+          (omega (arith, i.long)) w.put_change.ensures in
+          rw (w.list-is, w.count-is) put
+          )
+      | else-before-after w ↦ rw (w.list-is, w.count-is)
+          (same _ _ _ i c.read_word-before.ensures c.read_word-after.ensures w.if-before-after.false)
+    ]
 
 pub returns : goal.returns
 unfolding changes
-returns c = let l = c.loop-k in ends _ _ _ l.invariant.0 _ (omega (arith, l.invariant.1))
+returns c =
+    let ok = sym c.lengths_valid.ensures ∙ c.if-not-lengths_valid.false in
+    let l = c.loop-k in let e = ends _ _ _ l.invariant _ (omega arith) in
+    (ok, e.0, e.1, e.2)

@@ -2,7 +2,7 @@
 -- Builds on Pass1.Passing and Pass2. Assumes nothing.
 use Prim.Native.Nat.{ℕ, ◌<◌, ◌≤◌}
 use mathlib.Core.Path.{◌≡◌, refl, ◌∙◌}
-use mathlib.Core.Option.{none}
+use Rattle.std.specs.Prelude.{None}
 use mathlib.Core.List.{Memᴰ}
 use native.Mathlib.Omega.{arith}
 use lib.ListN.{length}
@@ -67,7 +67,7 @@ module _ {K : Passing} (S : Sound K) {s : State} (F : Fixed K s) where
   -- the entry `k` of level `l`, at which the walk of `b` ended, pointed to no table, and reads as it did unless it was a leaf that moves
   abbrev Stopped : (b l k : ℕ) → Type 0
   Stopped b l k =
-      (below old l (m₀ k) ≡ none) × (((x : Moved) → ¬ GoesAt K x b) → end_of (kind l (s.mem k)) l (s.mem k) ≡ end_of (old l (m₀ k)) l (m₀ k))
+      (below old l (m₀ k) ≡ None) × (((x : Moved) → ¬ GoesAt K x b) → end_of (kind l (s.mem k)) l (s.mem k) ≡ end_of (old l (m₀ k)) l (m₀ k))
 
   stopped : (b : ℕ) → Addr W b → Stopped b (was K b).level (was K b).at
   stopped b r = turn (act l (part l b) (m₀ k)) refl (F.stop b r)

@@ -2,7 +2,7 @@
 -- walk, table and entry (Fixed), or why it refuses (Why). Builds on Shared and Visit. Assumes nothing.
 use Prim.Native.Nat.{ℕ, suc, ◌+◌, ◌*◌, ◌<◌, ◌≤◌}
 use mathlib.Core.Path.{◌≡◌}
-use mathlib.Core.Option.{none, some}
+use Rattle.std.specs.Prelude.{None, Some}
 use mathlib.Core.List.{List, [], Memᴰ}
 use mathlib.Core.Bool.{true, false}
 use Rattle.definitions.specs.Words.{Mem, put}
@@ -38,9 +38,9 @@ act_as K l p k = K.act l p (K.m₀ k)
 -- what an act means for the entry `e` of level `l`
 abbrev pub Says : Passing → (l e : ℕ) → Act → Type 0
 Says K l e keep =
-    (below K.old l e ≡ none) × (below (kind_in K.paging) l e ≡ none) × (end_of (kind_in K.paging l e) l e ≡ end_of (K.old l e) l e)
-Says K l e (move x) = (below K.old l e ≡ none) × (x.level ≡ l) × (kind_in K.paging l x.entry ≡ leaf) × Addr K.paging x.address
-Says K l e (follow t v) = (below K.old l e ≡ some t) × (below (kind_in K.paging) l v ≡ some t) × (t < K.used) × (0 < l)
+    (below K.old l e ≡ None) × (below (kind_in K.paging) l e ≡ None) × (end_of (kind_in K.paging l e) l e ≡ end_of (K.old l e) l e)
+Says K l e (move x) = (below K.old l e ≡ None) × (x.level ≡ l) × (kind_in K.paging l x.entry ≡ leaf) × Addr K.paging x.address
+Says K l e (follow t v) = (below K.old l e ≡ Some t) × (below (kind_in K.paging) l v ≡ Some t) × (t < K.used) × (0 < l)
 Says K l e (refuse n q) = Unit {0}
 
 pub record Sound (K : Passing) : Type 0 where

@@ -2,7 +2,7 @@
 -- number and place. Every walk goes through the same tables before and after (walked). Builds on Reached and Tables. Assumes nothing.
 use Prim.Native.Nat.{ℕ, zero, suc, ◌+◌, ◌*◌, ◌/◌, ◌%◌, ◌<◌, ◌≤◌}
 use mathlib.Core.Path.{◌≡◌, refl, sym, ◌∙◌, ap}
-use mathlib.Core.Option.{none, some}
+use Rattle.std.specs.Prelude.{None, Some}
 use mathlib.Core.List.Memᴰ
 use mathlib.Core.List.{◌∷◌, Memᴰ}
 use mathlib.Core.Bool.{true}
@@ -34,12 +34,12 @@ module _ {K : Passing} (S : Sound K) {s : State} {P : Map} (I : Inv K s P (λ t.
 
   -- the walk of `b` ends in the table `t` before and after, or goes on to the same table
   abbrev Halts : (l t b : ℕ) → Type 0
-  Halts l t b = (below old l (m₀ (word t l b)) ≡ none) × (below kind l (s.mem (word t l b)) ≡ none) × StopAt K s (spot l (word t l b)) b
+  Halts l t b = (below old l (m₀ (word t l b)) ≡ None) × (below kind l (s.mem (word t l b)) ≡ None) × StopAt K s (spot l (word t l b)) b
 
   record Leads (l t b : ℕ) : Type 0 where
     to : ℕ
-    before : below old l (m₀ (word t l b)) ≡ some to
-    after : below kind l (s.mem (word t l b)) ≡ some to
+    before : below old l (m₀ (word t l b)) ≡ Some to
+    after : below kind l (s.mem (word t l b)) ≡ Some to
     seen : Seen s P to l (part l b)
     pos : 0 < l
 

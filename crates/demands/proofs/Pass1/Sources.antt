@@ -2,7 +2,7 @@
 -- for it (Src), and no two leaves have one address. It holds after a step (step_hist). Builds on Invariant. Assumes nothing.
 use Prim.Native.Nat.{ℕ, ◌+◌, ◌*◌, ◌<◌, ◌≤◌}
 use mathlib.Core.Path.{◌≡◌, refl, sym, ◌∙◌}
-use mathlib.Core.Option.{some}
+use Rattle.std.specs.Prelude.{Some}
 use mathlib.Core.List.{Memᴰ}
 use mathlib.Core.Bool.{true}
 use mathlib.Core.Logic.{◌⊎◌, inl, inr, ⊎_elim}
@@ -55,7 +55,7 @@ src_listed : {K : Passing} {s : State} {P : Map} {c : ℕ → ℕ} → Inv K s P
 src_listed I x r = (rw r.acted at (I.done r.t r.l r.i r.at r.done)).1
 
 -- where an entry is done, the table to which it led is seen, in its place
-pub led : {K : Passing} → Sound K → (s : State) (P : Map) (l p e e' t : ℕ) → below K.old l e ≡ some t → (a : Act) → K.act l p e ≡ a → Done s P l p a e e'
+pub led : {K : Passing} → Sound K → (s : State) (P : Map) (l p e e' t : ℕ) → below K.old l e ≡ Some t → (a : Act) → K.act l p e ≡ a → Done s P l p a e e'
     → Seen s P t l p
 led S s P l p e e' t eo keep ea d = impossible (cc (said S l p e _ ea).0)
 led S s P l p e e' t eo (move x) ea d = impossible (cc (said S l p e _ ea).0)

@@ -2,7 +2,7 @@
 -- a table stands in one place (way_one), and an entry that moves is where walks end (moved_at). Builds on Passing. Assumes nothing.
 use Prim.Native.Nat.{ℕ, zero, suc, ◌%◌, ◌<◌, ◌≤◌}
 use mathlib.Core.Path.{◌≡◌, refl, sym, ◌∙◌, ap}
-use mathlib.Core.Option.{some}
+use Rattle.std.specs.Prelude.{Some}
 use mathlib.Core.List.{Memᴰ}
 use native.Mathlib.Omega.{arith}
 use Rattle.definitions.specs.Words.{Mem}
@@ -40,7 +40,7 @@ module _ (K : Passing) where
   way_reads (first et eh ep) b e x m = rw (← et, ← eh) m
   way_reads (later {t} {l} {p} {i} {t' = t'} w hi eo ep) b e x m =
       let z : part l b % 512 ≡ i = omega arith in
-      let f : below old l (m₀ (word t l b)) ≡ some t' = rw z eo in
+      let f : below old l (m₀ (word t l b)) ≡ Some t' = rw z eo in
       way_reads w b (omega (arith, part_step l b)) x (rw f (Memᴰ.tail m))
 
   pub reads_first : (h t b : ℕ) → 0 < h → Memᴰ t (reads K.old h K.m₀ t b)

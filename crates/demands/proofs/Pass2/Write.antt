@@ -2,7 +2,7 @@
 -- already (same_ok) or is written (write_ok). Builds on Leaf. Assumes nothing.
 use Prim.Native.Nat.{ℕ, suc, ◌+◌, ◌*◌, ◌/◌, ◌%◌, ◌<◌}
 use mathlib.Core.Path.{◌≡◌, refl, sym, ◌∙◌, ap}
-use mathlib.Core.Option.{none, some}
+use Rattle.std.specs.Prelude.{None, Some}
 use mathlib.Core.Logic.{◌⊎◌, inl, inr, ⊎_elim}
 use native.Mathlib.Omega.{arith}
 use Rattle.definitions.specs.Words.{Mem, put}
@@ -64,7 +64,7 @@ module _ {W : Paging} (X : Lawful W) {x : Moved} (fit : Fit W x) {m : Mem} {u l 
 
   -- the entry is absent
   module _ (ek : kind_in W l (m (word t l a)) ≡ absent) where
-    dead : (l' : ℕ) → below kind l' (m k) ≡ none
+    dead : (l' : ℕ) → below kind l' (m k) ≡ None
     unfolding table_of
     dead l' = rw (absent_any l l' (m k) ek) refl
 
@@ -99,9 +99,9 @@ module _ {W : Paging} (X : Lawful W) {x : Moved} (fit : Fit W x) {m : Mem} {u l 
           inl (c, rw (c, e)))
 
       -- an entry that points to a table after the change did so before, or is the changed one
-      pub pointed : (t₁ l₁ i t' : ℕ) → i < 512 → G.P.ht t₁ ≡ suc l₁ → below (kind_in W) l₁ (put m (word t l a) w (512 * t₁ + i)) ≡ some t'
-          → (below (kind_in W) l₁ (m (512 * t₁ + i)) ≡ some t')
-          ⊎ ((t₁ ≡ t) × (i ≡ part l a % 512) × (l₁ ≡ l) × (below (kind_in W) l w ≡ some t'))
+      pub pointed : (t₁ l₁ i t' : ℕ) → i < 512 → G.P.ht t₁ ≡ suc l₁ → below (kind_in W) l₁ (put m (word t l a) w (512 * t₁ + i)) ≡ Some t'
+          → (below (kind_in W) l₁ (m (512 * t₁ + i)) ≡ Some t')
+          ⊎ ((t₁ ≡ t) × (i ≡ part l a % 512) × (l₁ ≡ l) × (below (kind_in W) l w ≡ Some t'))
       pointed t₁ l₁ i t' hi ht₁ e =
           on_eq (512 * t₁ + i) k
           (λ d.
@@ -115,7 +115,7 @@ module _ {W : Paging} (X : Lawful W) {x : Moved} (fit : Fit W x) {m : Mem} {u l 
     unfolding table_of end_of end_at
     write_ok eL =
         let same = put_same m k v k refl in
-        let stop : below kind l v ≡ none = rw (eL, is_leaf) refl in
+        let stop : below kind l v ≡ None = rw (eL, is_leaf) refl in
         let idle : (b : ℕ) → cont kind (put m k v) (spot l k) b ≡ spot l k = λ b. cont_none kind (put m k v) (spot l k) b (rw same stop) in
         let stays : (b : ℕ) → Addr W b → at W (put m k v) b ≡ at W m b = λ b r.
         ⊎_elim (λ c. c.0) (λ c. onto v b ∙ rw c.0 (idle b)) (either v b r) in

@@ -2,7 +2,7 @@
 -- address (at, walk), and what holds of the tables between any two moves (Good): each has one place. Builds on Walks. Assumes nothing.
 use Prim.Native.Nat.{ℕ, ◌*◌, ◌<◌, ◌≤◌}
 use mathlib.Core.Path.{◌≡◌}
-use mathlib.Core.Option.{some}
+use Rattle.std.specs.Prelude.{Some}
 use Rattle.definitions.specs.Words.{Mem}
 use Rattle.definitions.specs.Geometry.{part}
 use Rattle.definitions.specs.Entry.{fresh_table}
@@ -32,7 +32,7 @@ pub record Lawful (W : Paging) : Type 0 where
   pub pos : 0 < W.H
   pub absent_any : (l l' e : ℕ) → kind_in W l e ≡ absent → kind_in W l' e ≡ absent
   pub zero_absent : (l : ℕ) → kind_in W l 0 ≡ absent
-  pub up : (l e t : ℕ) → below (kind_in W) l e ≡ some t → 0 < l
+  pub up : (l e t : ℕ) → below (kind_in W) l e ≡ Some t → 0 < l
   pub link_table : (l u : ℕ) → 0 < l → u < size_in W → kind_in W l (link_in W u) ≡ table u
 
 -- `b` is in the new span of `x`

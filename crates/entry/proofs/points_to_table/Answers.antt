@@ -1,4 +1,4 @@
--- `entry::points_to_table` meets its contract: two tests of the level, in the order of `pointer`, and then the bit. No loop.
+-- `entry::points_to_table` meets its contract: by the level, as `pointer` has it, and then the bit. No loop.
 -- Assumes nothing.
 use Rattle.definitions.specs.Entry.{pointer}
 use mathlib.Core.Bool.{not}
@@ -7,18 +7,14 @@ use mathlib.Core.Path.{ap}
 use native.Mathlib.Omega.{arith}
 use Rattle.entry.proofs.points_to_table.Goals as goal
 
-pub returns-then-level-ge3 : goal.returns-then-level-ge3
+pub returns-in-0 : goal.returns-in-0
 unfolding pointer
-returns-then-level-ge3 c = rw (le-leb 3 c.args.level (omega arith))
+returns-in-0 c = rw c.in-0.is
 
-pub returns-then-level-lt1 : goal.returns-then-level-lt1
+pub returns-in-1 : goal.returns-in-1
 unfolding pointer
-returns-then-level-lt1 c =
-    let l = c.args.level in
-    rw (lt-leb 3 l (omega arith), lt-leb 1 l (omega arith))
+returns-in-1 c = let l = c.args.level in rw (lt-leb 3 l (omega arith), le-leb 1 l (omega arith)) (ap not c.is_large.ensures)
 
-pub returns : goal.returns
+pub returns-in_default : goal.returns-in_default
 unfolding pointer
-returns c =
-    let l = c.args.level in
-    rw (lt-leb 3 l (omega arith), le-leb 1 l (omega arith)) (ap not c.is_large.ensures)
+returns-in_default c = rw (le-leb 3 c.args.level (omega arith))

@@ -1,24 +1,28 @@
--- `moved::move_gap` meets its contract. Two loops: while too many leaves stand before the gap the last of them goes over it, and
--- then
-use borrow.Author.Rules.{rules}
-use Rattle.moved.proofs.Slots.{over_back, over_front}
+-- `moved::move_gap` meets its contract: the leaves between the gap and its new place go over it, the j-th stays the j-th. No loop.
+-- Assumes nothing.
 use native.Mathlib.Omega.{arith}
-use mathlib.Core.Path.{◌∙◌}
+use Rattle.moved.proofs.Slots.{stays_back, stays_front}
+use mathlib.Core.Path.{refl}
 use Rattle.moved.proofs.move_gap.Goals as goal
 
--- ---- the goals
-pub loop-front-preserved : goal.loop-front-preserved
-loop-front-preserved c = over_back (omega arith) c.loop-front.invariant (omega arith) c.copy_slot.ensures
-
-pub loop-front-2-init : goal.loop-front-2-init
-loop-front-2-init c = search rules
-
-pub loop-front-2-preserved : goal.loop-front-2-preserved
-loop-front-2-preserved c =
-    (over_front (omega arith) c.loop-front-2.invariant.0 (omega arith) c.copy_slot-in-loop-front-2.ensures, search rules)
+pub returns-then-at-s : goal.returns-then-at-s
+returns-then-at-s c =
+    let s = c.args.s in
+    let e = c.copy_slots.ensures in
+    record {
+      front = refl;
+      count = omega arith;
+      long = e.long;
+      each = stays_back _ _ _ s.front s.back c.args.at (omega arith) (omega arith) e;
+    }
 
 pub returns : goal.returns
 returns c =
-    let second = c.loop-front-2.invariant.0 in
-    let first = c.loop-front.invariant in
-    record { front = search rules; count = search rules; long = search rules; each = λ j. second.each j ∙ first.each j }
+    let s = c.args.s in
+    let e = c.copy_slots-2.ensures in
+    record {
+      front = refl;
+      count = omega arith;
+      long = e.long;
+      each = stays_front _ _ _ s.front s.back c.args.at (omega arith) c.if-at-s.false c.requires.1 e;
+    }

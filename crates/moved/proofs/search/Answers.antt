@@ -1,42 +1,22 @@
--- `moved::search` meets its contract. One loop: the slots from `lo` to `hi` are halved at the slot between, until none is left.
-use lib.Arith.{lt_of_le-ne}
-use Rattle.moved.proofs.Slots.{below_mid, above_mid}
-use mathlib.Core.Path.{sym}
-use Prim.Native.Nat.{ℕ, ◌+◌, ◌-◌, ◌/◌}
-use native.Mathlib.Omega.{arith}
-use borrow.Author.Rules.{rules}
+-- `moved::search` meets its contract: std's binary search by the first word of a slot. No loop.
+-- Assumes nothing.
+use Rattle.std.proofs.Common.{rules, List, ℕ, get_or, length, take, drop, ◌-◌, ◌≡◌}
+use Rattle.std.proofs.lemmas.List.Sorted.{answers_always}
+use Rattle.moved.proofs.Seeking.{found, between}
 use Rattle.moved.proofs.search.Goals as goal
 
--- ---- the goals
-pub returns-then-k-key : goal.returns-then-k-key
-returns-then-k-key c =
-    let mid : ℕ = c.loop-lo.lo + (c.loop-lo.hi - c.loop-lo.lo) / 2 in
-    record { at = mid; low = omega arith; high = omega arith; same = c.if-k-key.true }
+pub returns-in-Ok : goal.returns-in-Ok
+returns-in-Ok c =
+    let a = c.args in
+    let facts = c.in-Ok.ensures in
+    let by_key = facts.position (λ (slot : List ℕ). get_or slot 0 0) (answers_always _ _ _ (λ f a r g called. search rules)) in
+    let long : length (take (a.to - a.from) (drop a.from c.as_chunks.result.0.now)) ≡ a.to - a.from = search rules in
+    found _ _ _ _ c.requires.1 c.requires.0 c.requires.2 _ c.as_chunks.ensures.front long _ facts.bound by_key
 
-pub loop-lo-preserved-then-k-key-2 : goal.loop-lo-preserved-then-k-key-2
-loop-lo-preserved-then-k-key-2 c =
-    let mid : ℕ = c.loop-lo.lo + (c.loop-lo.hi - c.loop-lo.lo) / 2 in
-    record {
-      low = search rules;
-      order = search rules;
-      high = search rules;
-      below = below_mid mid c.args.key c.requires.2 (omega arith) (omega arith) c.if-k-key-2.true;
-      above = c.loop-lo.invariant.above;
-    }
-
-pub loop-lo-preserved : goal.loop-lo-preserved
-loop-lo-preserved c =
-    let mid : ℕ = c.loop-lo.lo + (c.loop-lo.hi - c.loop-lo.lo) / 2 in
-    let higher = lt_of_le-ne c.if-k-key-2.false (λ e. c.if-k-key.false (sym e)) in
-    record {
-      low = search rules;
-      order = search rules;
-      high = search rules;
-      below = c.loop-lo.invariant.below;
-      above = above_mid mid c.args.key c.requires.2 (omega arith) (omega arith) higher;
-    }
-
-pub returns : goal.returns
-returns c =
-    let i = c.loop-lo.invariant in
-    record { low = omega arith; high = omega arith; below = i.below; above = λ k p q. i.above k (omega arith) q }
+pub returns-in-Err : goal.returns-in-Err
+returns-in-Err c =
+    let a = c.args in
+    let facts = c.in-Err.ensures in
+    let by_key = facts.position (λ (slot : List ℕ). get_or slot 0 0) (answers_always _ _ _ (λ f a r g called. search rules)) in
+    let long : length (take (a.to - a.from) (drop a.from c.as_chunks.result.0.now)) ≡ a.to - a.from = search rules in
+    between _ _ _ _ c.requires.1 c.requires.0 c.requires.2 _ c.as_chunks.ensures.front long _ facts.bound by_key

@@ -4,7 +4,6 @@
 use Rattle.pass1.proofs.Walking.{lies_root, first_is}
 use Rattle.reached.proofs.Laws.{marked_low}
 use Rattle.definitions.specs.Words.{Tables, mark}
-use Rattle.definitions.specs.declared.Refusal.{Refusal}
 use Rattle.moved.proofs.Leaves.{empty_held}
 use Rattle.std.proofs.Common.{ap, ◌∙◌, ◌<◌, arith}
 use Rattle.pass1.proofs.first_pass.Goals as goal
@@ -17,13 +16,12 @@ walk_table-requires c =
       table = pre.1;
       level = omega arith;
       lies = lies_root _;
-      runs = ap (λ (r : Refusal). r.number) c.plain-refusal.ensures;
-      held = empty_held _ _ c.empty-store.ensures;
+      held = empty_held _ _ c.empty.ensures;
     }
 
 pub returns : goal.returns
 returns c =
     let old = c.requires.0.plan.old in
     let few : c.args.root < 512 = omega (arith, c.requires.1, old.fits, old.most) in
-    let marked = c.mark-reached.ensures ∙ marked_low _ _ few ∙ ap (λ (s : Tables). mark s c.args.root) c.none-none.ensures in
-    first_is _ _ _ _ _ _ _ _ _ marked c.empty-store.ensures c.walk_table.ensures
+    let marked = c.mark.ensures ∙ marked_low _ _ few ∙ ap (λ (s : Tables). mark s c.args.root) c.none-reached.ensures in
+    first_is _ _ _ _ _ _ _ _ _ marked c.empty.ensures c.walk_table.ensures

@@ -1,14 +1,8 @@
--- `list_valid` meets its contract. One loop, over the words in threes: i goes to the next range, lo to one above the last address
--- of this one.
--- Invariant: `Checking`, the words from i on, above lo, decide whether the whole list keeps the rules. Measure: the words left.
+-- `list_valid` meets its contract. One loop, over the words in threes: lo goes to one above the last address of each range.
+-- Invariant: `Checking`, the ranges from this one on, above lo, decide whether the whole list keeps the rules.
 -- Assumes nothing.
 use Rattle.ranges.proofs.Check.{Checking}
-use Prim.Native.Nat.{◌-◌}
-use lib.ListN.{length}
 use Rattle.ranges.proofs.list_valid.Given as goal
 
-abbrev pub invariant-loop-i : goal.invariant-loop-i
-invariant-loop-i l = Checking l.geometry.limit l.r l.ranges l.i l.lo
-
-abbrev pub decreases-loop-i : goal.decreases-loop-i
-decreases-loop-i l = length l.ranges - l.i
+abbrev pub invariant-loop-first : goal.invariant-loop-first
+invariant-loop-first l = Checking l.geometry.limit l.r l.ranges l.threes l.first-index l.lo

@@ -1,20 +1,13 @@
--- `tables::blank` looks at each byte in turn and stops at the first that is not 0.
-use mathlib.Core.Path.{sym, ◌∙◌}
-use borrow.Author.Rules.{rules}
-use Rattle.tables.proofs.Zeros.{more, stops, ends}
+-- `tables::blank` is the chain's answer: whether each byte is 0.
+-- Assumes nothing.
+use Rattle.std.proofs.Common.{◌≡◌, ◌≢◌, rules}
+use Rattle.std.proofs.lemmas.Iterator.{cases_from_all, YieldsList-from_slice}
+use borrow.Author.Tests.{tests}
+use Rattle.tables.proofs.Zeros.{zeros}
 use Rattle.tables.proofs.blank.Goals as goal
-
-pub returns-then-bytes-i-ne0 : goal.returns-then-bytes-i-ne0
-returns-then-bytes-i-ne0 c =
-    let l = c.loop-i in
-    sym (stops _ l.i (search rules) c.if-bytes-i-ne0.true) ∙ l.invariant.1
-
-pub loop-i-preserved : goal.loop-i-preserved
-loop-i-preserved c =
-    let l = c.loop-i in
-    (search rules, more _ l.i (search rules) (search rules) ∙ l.invariant.1)
 
 pub returns : goal.returns
 returns c =
-    let l = c.loop-i in
-    sym (ends _ l.i (search rules)) ∙ l.invariant.1
+    zeros _ _
+    (cases_from_all _ _ _ (λ x. x ≡ 0) (λ x. x ≢ 0) c.all.ensures.ran (YieldsList-from_slice c.args.bytes.now cc)
+    (λ x q k. search (rules, tests)) (λ x q k. search (rules, tests)))

@@ -4,7 +4,12 @@ use Rattle.std.proofs.Common.{rules}
 use Rattle.compare_files.proofs.Pages.{page_counted}
 use Rattle.compare_files.proofs.page.count_page.Goals as goal
 
-pub returns : goal.returns
-returns c =
-    let a = c.args in
-    page_counted a.older.now a.newer.now (search rules) (search rules) (search rules) c.compare.ensures
+pub returns-in-Ok : goal.returns-in-Ok
+returns-in-Ok c =
+    let pages = c.args.pages.now in
+    page_counted pages.older pages.newer (search rules) (search rules) (search rules) c.in-Ok.ensures
+
+pub returns-in-Err : goal.returns-in-Err
+returns-in-Err c =
+    let pages = c.args.pages.now in
+    page_counted pages.older pages.newer (search rules) (search rules) (search rules) c.in-Err.ensures

@@ -3,26 +3,20 @@
 use Rattle.definitions.proofs.Answers.{answer_good, answer_refused}
 use Rattle.definitions.specs.Entry.{set_address}
 use Rattle.entry.proofs.Bits.{table_mask, fits_mask, misfits_mask, fits_yes}
-use Prim.Native.Nat.{◌%◌, ◌^◌, ◌<◌}
-use mathlib.Core.Path.{◌≡◌}
 use Rattle.entry.proofs.PageTableEntry.set_addr.Goals as goal
 
 pub returns-then-addr-ne0 : goal.returns-then-addr-ne0
 unfolding set_address
 returns-then-addr-ne0 c =
-    answer_refused _ _ c.args.self.entry (misfits_mask table_mask c.args.addr c.ranges.addr.fits c.if-addr-ne0.true)
+    let a = c.args in
+    answer_refused _ _ a.self.now.entry (misfits_mask table_mask a.addr c.ranges.addr.fits c.if-addr-ne0.true)
 
-pub with_address-requires : goal.with_address-requires
-with_address-requires c =
-    let inside : let a =
-    c.args.addr in (a % 4096 ≡ 0) × (a < 2 ^ 52) = fits_mask table_mask c.args.addr c.ranges.addr.fits c.if-addr-ne0.false in
-    inside
+pub with_address-self-requires : goal.with_address-self-requires
+with_address-self-requires c = fits_mask table_mask c.args.addr c.ranges.addr.fits c.if-addr-ne0.false
 
 pub returns : goal.returns
 unfolding set_address
 returns c =
-    let inside : let a =
-    c.args.addr in (a % 4096 ≡ 0) × (a < 2 ^ 52) = fits_mask table_mask c.args.addr c.ranges.addr.fits c.if-addr-ne0.false in
     let a = c.args in
-    let f = inside in
-    answer_good _ _ _ a.self.entry (fits_yes 4096 a.addr f.0 f.1) c.with_address.ensures
+    let f = fits_mask table_mask a.addr c.ranges.addr.fits c.if-addr-ne0.false in
+    answer_good _ _ _ a.self.now.entry (fits_yes 4096 a.addr f.0 f.1) c.with_address-self.ensures

@@ -1,34 +1,12 @@
--- `PageTableEntry::set_entry` meets its contract: one case for each kind, which asks `fresh` with the kind's size and flags. No
--- loop.
+-- `PageTableEntry::set_entry` meets its contract: the kind's fresh word, or its refusal, is what `set_entry` says. No loop.
 -- Assumes nothing.
-use Rattle.entry.specs.Kinds.{set_entry}
-use Rattle.entry.proofs.Bits.{pages, fresh_leaf_lem, fresh_pde}
-use mathlib.Core.Path.{sym, ap, ◌∙◌}
-use native.Mathlib.Omega.{arith}
+use Rattle.std.proofs.lemmas.Result.{err_from_is_err_and}
 use Rattle.entry.proofs.PageTableEntry.set_entry.Goals as goal
 
-pub fresh-requires : goal.fresh-requires
-fresh-requires c = let p = pages 2 _ c.span_of.ensures.0 in (p.0, p.1, omega arith)
+pub returns-in_err-self : goal.returns-in_err-self
+returns-in_err-self c =
+    let p = err_from_is_err_and c.from_residual.result c.from_residual.ensures.1 in
+    rw (p.1, p.2) (c.in_err-self.ensures c.args.self.now.entry)
 
-pub fresh-requires-in-Leaf2MbPage : goal.fresh-requires-in-Leaf2MbPage
-fresh-requires-in-Leaf2MbPage c = let p = pages 1 _ c.span_of-in-Leaf2MbPage.ensures.0 in (p.0, p.1, omega arith)
-
-pub fresh-requires-in-Leaf4kPage : goal.fresh-requires-in-Leaf4kPage
-fresh-requires-in-Leaf4kPage c = let p = pages 0 _ c.span_of-in-Leaf4kPage.ensures.0 in (p.0, p.1, omega arith)
-
-pub returns-in-Leaf1GbPage : goal.returns-in-Leaf1GbPage
-returns-in-Leaf1GbPage c =
-    fresh_leaf_lem 2 _ _ (omega arith) c.span_of.ensures.0 c.fresh.ensures ∙ ap (set_entry _) (sym c.in-Leaf1GbPage.is)
-
-pub returns-in-Leaf2MbPage : goal.returns-in-Leaf2MbPage
-returns-in-Leaf2MbPage c =
-    fresh_leaf_lem 1 _ _ (omega arith) c.span_of-in-Leaf2MbPage.ensures.0 c.fresh-in-Leaf2MbPage.ensures
-    ∙ ap (set_entry _) (sym c.in-Leaf2MbPage.is)
-
-pub returns-in-Leaf4kPage : goal.returns-in-Leaf4kPage
-returns-in-Leaf4kPage c =
-    fresh_leaf_lem 0 _ _ (omega arith) c.span_of-in-Leaf4kPage.ensures.0 c.fresh-in-Leaf4kPage.ensures
-    ∙ ap (set_entry _) (sym c.in-Leaf4kPage.is)
-
-pub returns-in-Pde : goal.returns-in-Pde
-returns-in-Pde c = fresh_pde _ _ c.fresh-in-Pde.ensures ∙ ap (set_entry _) (sym c.in-Pde.is)
+pub returns : goal.returns
+returns c = c.in_ok-self.ensures c.args.self.now.entry
