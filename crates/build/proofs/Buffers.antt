@@ -9,7 +9,8 @@ use lib.ListN.{length, take, drop, replicate, length-append, length-drop, length
 use lib.Seq.{paste, take-length, take_at, drop_at}
 
 -- d with the image s copied to its front, and then zeros from there on
-pub image_then_zeros : (d s mid bytes : List ℕ) → length s ≤ length d → mid ≡ paste d 0 s (length s) → bytes ≡ take (length s) mid ++ replicate (length (drop (length s) mid)) 0
+pub image_then_zeros : (d s mid bytes : List ℕ) → length s ≤ length d → mid ≡ paste d 0 s (length s)
+    → bytes ≡ take (length s) mid ++ replicate (length (drop (length s) mid)) 0
     → bytes ≡ s ++ replicate (length d - length s) 0
 image_then_zeros d s mid bytes fits e f =
     let front : mid ≡ s ++ drop (length s) d = e ∙ ap₂ (λ (xs : List ℕ) (k : ℕ). xs ++ drop k d) (take-length s) (zero-add (length s)) in

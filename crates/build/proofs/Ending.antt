@@ -34,7 +34,8 @@ plan_with g r new o = record { geometry = g; old = r; new = new; offset = o }
 -- the output holds the image and then zeros
 pub ready_with : (r new : Region) (cr3 cr4 o : ℕ) (ws image out xs : List ℕ) (g : Geometry) → g ≡ geometry_of cr4 → new ≡ moved_region r o
     → let j = job_of r cr3 cr4 o ws image (length out) (length xs) in Good j
-    → (t : ℕ) → t ≡ root j → (mid bytes : List ℕ) → mid ≡ paste out 0 image (length image) → bytes ≡ take (length image) mid ++ replicate (length (drop (length image) mid)) 0
+    → (t : ℕ) → t ≡ root j → (mid bytes : List ℕ) → mid ≡ paste out 0 image (length image)
+    → bytes ≡ take (length image) mid ++ replicate (length (drop (length image) mid)) 0
     → Ready j bytes xs ws (plan_with g r new o) t
 unfolding job_of
 ready_with r new cr3 cr4 o ws image out xs g eg moves good t h mid bytes e f =

@@ -2,6 +2,7 @@
 -- Assumes nothing.
 use Rattle.std.proofs.Common.{◌≡◌, ℕ, ◌+◌, ◌-◌, ◌*◌, ◌^◌, ◌<◌, ◌≤◌, List, [], ◌∷◌, length, get_or, take, drop, sym, refl, add-one, arith, length-drop, drop_of_length-le, take_all, drop-cons, le-ltb, lt-ltb, le-leb}
 use Rattle.std.specs.Prelude.{None, Some}
+use Rattle.std.proofs.lemmas.Bool.Decides.{nat_tests}
 use native.Mathlib.Decide.{dec_lt}
 use borrow.Author.Tests.{lt-leb}
 use Rattle.text.specs.Hex.{digit_of, follow, at_most, digits_of}
@@ -57,3 +58,6 @@ module _ {s : List ℕ} {v i : ℕ} (c : Come s v i) where
 -- a part that reaches to the end
 pub rest : (s : List ℕ) (k : ℕ) → take (length s - k) (drop k s) ≡ drop k s
 rest s k = take_all (length s - k) (drop k s) (omega (arith, length-drop k s))
+
+-- what reading a text goes by
+pub ruleset reads = (nat_tests, rest)

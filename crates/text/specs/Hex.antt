@@ -35,7 +35,7 @@ unfoldable pub hex_of : List ℕ → Option ℕ
 hex_of s = cond (length s == 0) None (cond (prefixed_of s) (digits_of (drop 2 s)) (digits_of s))
 
 -- the word that, with a magnitude added, is 0 modulo 2^64
-unfoldable pub negated : Option ℕ → Option ℕ
+abbrev pub negated : Option ℕ → Option ℕ
 negated None = None
 negated (Some m) = Some ((2 ^ 64 - m) % 2 ^ 64)
 

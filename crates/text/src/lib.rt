@@ -38,7 +38,7 @@ fn prefixed(s: &[u8]) -> bool
 }
 
 // A number below 2^64 in hexadecimal.
-#[tactic(auto, using(std::proofs::lemmas::Bool::Decides::nat_tests, crate::proofs::Values::rest), unfolding(crate::specs::Hex::hex_of, crate::specs::Hex::prefixed_of))]
+#[tactic(auto, using(crate::proofs::Values::reads), unfolding(crate::specs::Hex::hex_of, crate::specs::Hex::prefixed_of))]
 pub fn parse_hex(s: &[u8]) -> Option<u64>
     ensures { result ≡ hex_of s.now }
 {
@@ -50,7 +50,7 @@ pub fn parse_hex(s: &[u8]) -> Option<u64>
 }
 
 // A number as parse_hex reads it, or one to -2^63 after '-', as a word in two's complement.
-#[tactic(auto, using(std::proofs::lemmas::Bool::Decides::nat_tests, crate::proofs::Values::rest), unfolding(crate::specs::Hex::signed_of, crate::specs::Hex::hex_of, crate::specs::Hex::negated, crate::specs::Hex::at_most))]
+#[tactic(auto, using(crate::proofs::Values::reads), unfolding(crate::specs::Hex::signed_of, crate::specs::Hex::hex_of, crate::specs::Hex::at_most))]
 pub fn parse_signed(s: &[u8]) -> Option<u64>
     ensures { result ≡ signed_of s.now }
 {

@@ -10,7 +10,8 @@ use Rattle.std.proofs.lemmas.List.Edits.{fill_from_more}
 use Rattle.words.proofs.fill_from.Goals as goal
 
 -- one turn
-turn : {X : Type 0} (d ys : List X) (at i : ℕ) (v : X) → at ≤ i → i < length d → ys ≡ paste d at (replicate (i - at) v) (i - at) → set ys i v ≡ paste d at (replicate (i + 1 - at) v) (i + 1 - at)
+turn : {X : Type 0} (d ys : List X) (at i : ℕ) (v : X) → at ≤ i → i < length d → ys ≡ paste d at (replicate (i - at) v) (i - at)
+    → set ys i v ≡ paste d at (replicate (i + 1 - at) v) (i + 1 - at)
 turn d ys at i v lo hi e =
     let place : at + (i - at) ≡ i = omega arith in
     let more : i + 1 - at ≡ i - at + 1 = omega arith in
