@@ -34,6 +34,7 @@ use Rattle.pass1.specs.Walks.{view, outcome, LeavesHeld, Asked, FirstWalked}
 use Rattle.pass1.specs.Walks as P
 use Rattle.pass1.specs.declared.Plan.{Plan}
 use Rattle.pass1.specs.declared.Walk.{Walk}
+use Rattle.pass1.specs.declared.Unfinished.{Unfinished}
 use Rattle.pass2.specs.Meaning.{fill_of, begun, FewMore, SecondFits, Filled}
 use Rattle.pass2.specs.Meaning as S
 use Rattle.pass2.proofs.All.{of_job}
@@ -132,13 +133,13 @@ module _ {j : I.Job} {out xs ws : List ℕ} {p : Plan} {t : ℕ} (ready : Ready 
     room = ready.room i / 3;
   }
 
-  module _ {m : Mem} {ys : List ℕ} {a : Result Walk Refusal} (first : FirstWalked ws p t (words_of out) (length xs) m ys a) where
+  module _ {m : Mem} {ys : List ℕ} {a : Result Walk Unfinished} (first : FirstWalked ws p t (words_of out) (length xs) m ys a) where
     first_is : outcome m ys a ≡ first_pass j (start_state j)
     unfolding first_pass
     first_is = first.step ∙ (λ i. walk_table (plan_is i) (root_height (sym ready.geometry i)) 0 (ready.root i)
         (record { mem = ready.image i; reached = mark no_tables (ready.root i); moved = [] }))
 
-    pub ends_first : {x : Refusal} → a ≡ Err x → Passes j m (Err x)
+    pub ends_first : {u : Unfinished} → a ≡ Err u → Passes j m (Err u.refusal)
     ends_first e = build_first j ready.good _ _ (sym first_is ∙ ap (outcome m ys) e)
 
     module _ {w : Walk} (ok : a ≡ Ok w) where

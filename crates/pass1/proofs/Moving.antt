@@ -1,6 +1,7 @@
 -- The task at an entry, and the cases of a leaf that moves, each from the facts that the code's tests give.
 -- Assumes nothing.
-use Rattle.std.proofs.Common.{◌≡◌, ℕ, ◌+◌, ◌/◌, ◌%◌, ◌<◌, ◌≤◌, true, false, leb, List, length, sym, refl, ap, ◌∙◌, arith, le-ltb, lt-ltb, eq-eqb, ne_eqb}
+use Rattle.std.proofs.Common.{◌≡◌, ℕ, ◌+◌, ◌/◌, ◌%◌, ◌<◌, ◌≤◌, true, false, leb, List, length, sym, refl, ap, ◌∙◌, subst}
+use Rattle.std.proofs.Common.{arith, le-ltb, lt-ltb, eq-eqb, ne_eqb}
 use Rattle.definitions.specs.Words.{Mem, Tables, put}
 use Rattle.definitions.specs.Geometry.{span}
 use Rattle.definitions.specs.Entry.{present, pointer, with_leaf_address}
@@ -18,7 +19,7 @@ use Rattle.definitions.specs.declared.paging.Geometry.{Geometry}
 use Rattle.definitions.proofs.Pass1.{act_absent, act_stay}
 use Rattle.definitions.proofs.Step.{unless_then}
 use Rattle.definitions.proofs.Kind.{leaf_low}
-use Rattle.moved.specs.View.{leaf, leaves_of, kept_step, Keeps}
+use Rattle.moved.specs.View.{leaf, leaves_of, kept_step, Held, Keeps}
 use Rattle.moved.specs.declared.Store.{Store}
 use Rattle.ranges.specs.Lists.{says_of, says, Looks, LookupFits}
 use Rattle.pass1.specs.declared.Plan.{Plan}
@@ -84,25 +85,26 @@ place x = place_at x.va x.level
 abbrev cleared : Spot → Mem → Tables → List Moved → Step State
 cleared x m reached ms = go (record { mem = put m x.word 0; reached = reached; moved = ms })
 
-module _ {g : Geometry} {x : Spot} {o : ℕ} {m : Mem} {xs : List ℕ} {s : Store} where
+-- refused, and the scratch holds what it held
+module _ {g : Geometry} {x : Spot} {o : ℕ} {m : Mem} {xs ys : List ℕ} {s : Store} (held : Held ys s) (long : length ys ≡ length xs) where
   pub moves_odd : (o % span x.level ≡ 0 → ⊥) → {r : Refusal} → r ≡ refusal_with Error.UnalignedOffset x.va x.level o
-      → Departs g x o m xs s m xs (Err r)
+      → Departs g x o m xs s m ys (Err r)
   unfolding move_act perform
   moves_odd h e =
       rw e (record {
         step = λ p q reached down. rw (ne_eqb (o % span x.level) 0 h);
-        held = tt;
-        long = refl;
+        held = held;
+        long = long;
       })
 
   pub moves_past : o % span x.level ≡ 0 → g.limit < shifted x.va o + span x.level
-      → {r : Refusal} → r ≡ refusal_with Error.OutOfBounds x.va x.level o → Departs g x o m xs s m xs (Err r)
+      → {r : Refusal} → r ≡ refusal_with Error.OutOfBounds x.va x.level o → Departs g x o m xs s m ys (Err r)
   unfolding move_act perform
   moves_past h f e =
       rw e (record {
         step = λ p q reached down. rw (q, eq-eqb (o % span x.level) 0 h, lt-ltb _ _ f);
-        held = tt;
-        long = refl;
+        held = held;
+        long = long;
       })
 
 module _ {g : Geometry} {x : Spot} {o b v : ℕ} (away : Away g x o b v)
@@ -128,20 +130,20 @@ moves_in {x = x} away {ys = ys} {t = t} keeps {m} c =
       long = keeps.long;
     }
 
--- it is refused
-pub moves_not : {g : Geometry} {x : Spot} {o b v : ℕ} → Away g x o b v → {xs : List ℕ} {s : Store} {ys : List ℕ} {e : Error}
+-- it is refused, and the scratch stays as it is
+pub moves_not : {g : Geometry} {x : Spot} {o b v : ℕ} → Away g x o b v → {xs : List ℕ} {s : Store} → Held xs s → {ys : List ℕ} {e : Error}
     → Keeps xs s (leaf b x.level v) ys (Err e) → {m : Mem} {r : Refusal} → r ≡ refusal_at e x.va x.level → Departs g x o m xs s m ys (Err r)
 unfolding and_then
-moves_not away keeps {m} c =
+moves_not away {s = s} held keeps {m} c =
     rw c (record {
       step = acted away keeps m;
-      held = tt;
+      held = subst (λ (z : List ℕ). Held z s) (sym keeps.kept) held;
       long = keeps.long;
     })
 
 -- so, whatever it is refused for
-pub moves_refused : {g : Geometry} {x : Spot} {o b v : ℕ} → Away g x o b v → {xs : List ℕ} {s : Store} {ys : List ℕ} {k : Result Store Error}
-    → Keeps xs s (leaf b x.level v) ys k → {m : Mem} {r : Refusal}
+pub moves_refused : {g : Geometry} {x : Spot} {o b v : ℕ} → Away g x o b v → {xs : List ℕ} {s : Store} → Held xs s
+    → {ys : List ℕ} {k : Result Store Error} → Keeps xs s (leaf b x.level v) ys k → {m : Mem} {r : Refusal}
     → MatchResult k (λ t. ◌≡◌ {A = Result Store Refusal} (Err r) (Ok t)) (λ e. r ≡ refusal_at e x.va x.level) → Departs g x o m xs s m ys (Err r)
-moves_refused away {k = Ok t} keeps e = absurd (cc)
-moves_refused away {k = Err d} keeps e = moves_not away keeps e
+moves_refused away held {k = Ok t} keeps e = absurd (cc)
+moves_refused away held {k = Err d} keeps e = moves_not away held keeps e

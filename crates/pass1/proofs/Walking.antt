@@ -13,19 +13,16 @@ use Rattle.definitions.specs.declared.Refusal.{Refusal}
 use Rattle.definitions.specs.declared.paging.Geometry.{Geometry}
 use Rattle.moved.specs.View.{Held, Empty}
 use Rattle.moved.specs.declared.Store.{Store}
-use Rattle.moved.proofs.Leaves.{empty_leaves, empty_held}
+use Rattle.moved.proofs.Leaves.{empty_leaves}
 use Rattle.reached.specs.Held.{set_of}
 use Rattle.reached.specs.declared.Reached.{Reached}
-use Rattle.std.specs.Prelude.{None, Some, Result, Ok, Err}
+use Rattle.std.specs.Prelude.{Option, None, Some, Result, Ok, Err, MatchResult}
 use Rattle.pass1.specs.declared.Plan.{Plan}
 use Rattle.pass1.specs.declared.Walk.{Walk}
+use Rattle.pass1.specs.declared.Unfinished.{Unfinished}
 use Rattle.pass1.specs.declared.Spot.{Spot}
 use Rattle.pass1.specs.declared.Task.TheVariants.{Skip, Leaf}
 use Rattle.pass1.specs.Walks.{spot_in, act_at, view, outcome, LeavesHeld, plan_of, Told, Departs, walk_of, Opens, Lies, AtHand, Visits, Walked, FirstWalked}
-
--- any scratch holds a store: the one of no leaf
-some_held : (xs : List ℕ) → (s : Store) × Held xs s
-some_held xs = (record { front = 0; back = 0 }, empty_held xs _ (record { front = refl; back = refl }))
 
 -- ---- where entries lie
 
@@ -69,6 +66,10 @@ at_hand n g x m k l s a at f h e d = subst (AtHand n g) (sym at) (record { fits 
 
 -- ---- an entry and what is below
 
+-- a refusal, with the store that the scratch holds
+abbrev pub unfinished : Refusal → Store → Unfinished
+unfinished r s = record { refusal = r; store = s }
+
 module _ (ws : List ℕ) (p : Plan) (x : Spot) (m : Mem) (xs : List ℕ) (w : Walk) where
   abbrev down_of : ℕ → State → Step State
   down_of = walk_table (plan_of p ws (length xs)) x.level x.va
@@ -90,22 +91,31 @@ module _ (ws : List ℕ) (p : Plan) (x : Spot) (m : Mem) (xs : List ℕ) (w : Wa
       long = d.long;
     }
 
-    pub refused_visits : (r : Refusal) → Departs p.geometry x o m xs w.store m' ys (Err r) → Visits ws p x m xs w m' ys (Err r)
-    refused_visits r d = record {
-      step = d.step (plan_of p ws (length xs)) refl (set_of w.reached) down_of ∙ sym (ap does (told.1 (length xs)));
-      held = some_held ys;
-      long = d.long;
-    }
+    -- u is what is made of a refusal
+    pub refused_visits : (k : Result Store Refusal) → Departs p.geometry x o m xs w.store m' ys k → {u : Unfinished}
+        → MatchResult k (λ t. ◌≡◌ {A = Result Store Unfinished} (Err u) (Ok t)) (λ r. u ≡ unfinished r w.store)
+        → Visits ws p x m xs w m' ys (Err u)
+    refused_visits (Ok t) d e = absurd (cc)
+    refused_visits (Err r) d e =
+        rw e (record {
+          step = d.step (plan_of p ws (length xs)) refl (set_of w.reached) down_of ∙ sym (ap does (told.1 (length xs)));
+          held = d.held;
+          long = d.long;
+        })
 
   -- a pointer that is opened
   module _ (m' : Mem) (v' : Reached) where
     pub visits_done : Opens p x m w.reached m' v' (Ok None) → Held xs w.store → Visits ws p x m xs w m' xs (Ok (walk_of v' w.store))
     visits_done opens held = record { step = opens.step ws xs w.store down_of; held = held; long = refl }
 
-    pub visits_refused : (r : Refusal) → Opens p x m w.reached m' v' (Err r) → Visits ws p x m xs w m' xs (Err r)
-    visits_refused r opens = record { step = opens.step ws xs w.store down_of; held = some_held xs; long = refl }
+    -- u is what is made of a refusal
+    pub visits_refused : (k : Result (Option ℕ) Refusal) → Opens p x m w.reached m' v' k → Held xs w.store → {u : Unfinished}
+        → MatchResult k (λ t. ◌≡◌ {A = Result (Option ℕ) Unfinished} (Err u) (Ok t)) (λ r. u ≡ unfinished r w.store)
+        → Visits ws p x m xs w m' xs (Err u)
+    visits_refused (Ok t) opens held e = absurd (cc)
+    visits_refused (Err r) opens held e = rw e (record { step = opens.step ws xs w.store down_of; held = held; long = refl })
 
-    pub visits_down : (t : ℕ) → Opens p x m w.reached m' v' (Ok (Some t)) → (m'' : Mem) (zs : List ℕ) (r : Result Walk Refusal)
+    pub visits_down : (t : ℕ) → Opens p x m w.reached m' v' (Ok (Some t)) → (m'' : Mem) (zs : List ℕ) (r : Result Walk Unfinished)
         → Walked ws p t (x.level - 1) x.va m' xs (walk_of v' w.store) m'' zs r → Visits ws p x m xs w m'' zs r
     visits_down t opens m'' zs r d = record {
       step = d.step
@@ -152,7 +162,7 @@ module _ {ws : List ℕ} {p : Plan} {t l a : ℕ} {out₀ xs₀ : List ℕ} {w�
       }
 
   -- entry i is visited, and leaves the words m'
-  module _ (h : i < 512) {x : Spot} (at : x ≡ entry_at (words_of out) t l a i) {m' : Mem} {ys : List ℕ} {r : Result Walk Refusal}
+  module _ (h : i < 512) {x : Spot} (at : x ≡ entry_at (words_of out) t l a i) {m' : Mem} {ys : List ℕ} {r : Result Walk Unfinished}
       (visits : Visits ws p x (words_of out) xs w m' ys r) where
     abbrev turn : ℕ → State → Step State
     turn = turn_of ws p (length xs₀) t l a
@@ -177,11 +187,11 @@ module _ {ws : List ℕ} {p : Plan} {t l a : ℕ} {out₀ xs₀ : List ℕ} {w�
         ap (λ (z : Step State). and_then z later) turn_is
         ∙ ap (λ (n : ℕ). times n turn i (view (words_of out) xs w)) (sym more) ∙ turning.step
 
-    pub stops : {e : Refusal} → r ≡ Err e → Walked ws p t l a (words_of out₀) xs₀ w₀ m' ys (Err e)
+    pub stops : {e : Unfinished} → r ≡ Err e → Walked ws p t l a (words_of out₀) xs₀ w₀ m' ys (Err e)
     unfolding and_then
     stops {e} q =
         let at : and_then (outcome m' ys (Err e)) later ≡ walk_table (plan_of p ws (length xs₀)) (suc l) a t (view (words_of out₀) xs₀ w₀) = rw q at rest in
-        record { step = at; held = some_held ys; long = visits.long ∙ turning.scratch }
+        record { step = at; held = subst (LeavesHeld ys) q visits.held; long = visits.long ∙ turning.scratch }
 
     pub again : {u : Walk} → r ≡ Ok u → (out' : List ℕ) → m' ≡ words_of out' → length out' ≡ length out → Turning ws p t l a out₀ xs₀ w₀ out' ys u (i + 1)
     unfolding and_then
@@ -198,7 +208,7 @@ module _ {ws : List ℕ} {p : Plan} {t l a : ℕ} {out₀ xs₀ : List ℕ} {w�
 
 -- ---- the beginning
 
-pub first_is : (ws : List ℕ) (p : Plan) (t : ℕ) (m : Mem) (xs : List ℕ) (w : Walk) (m' : Mem) (ys : List ℕ) (r : Result Walk Refusal)
+pub first_is : (ws : List ℕ) (p : Plan) (t : ℕ) (m : Mem) (xs : List ℕ) (w : Walk) (m' : Mem) (ys : List ℕ) (r : Result Walk Unfinished)
     → set_of w.reached ≡ mark no_tables t → Empty w.store → Walked ws p t p.geometry.top 0 m xs w m' ys r
     → FirstWalked ws p t m (length xs) m' ys r
 first_is ws p t m xs w m' ys r es e d = record {

@@ -2,7 +2,7 @@
 -- `walk_table` reads is said once, of plain values; then come the goals of both, those of `walk_table` by what the task at the entry
 -- is.
 -- Assumes nothing.
-use Rattle.pass1.proofs.Walking.{lies_down, inner, lies_with, lies_low, at_hand, skip_visits, stored_visits, refused_visits}
+use Rattle.pass1.proofs.Walking.{lies_down, inner, lies_with, lies_low, at_hand, skip_visits, stored_visits, refused_visits, unfinished}
 use Rattle.pass1.proofs.Walking.{visits_done, visits_refused, visits_down, entry_at, begin, over, again, stops}
 use Rattle.pass1.specs.Walks.{spot_in, Asked, AtHand, WalkFits}
 use Rattle.pass1.specs.declared.Plan.{Plan}
@@ -13,7 +13,10 @@ use Rattle.definitions.specs.Geometry.{span}
 use Rattle.entry.specs.Kinds.{leaf_field}
 use Rattle.entry.proofs.Bits.{leaf_mask}
 use Rattle.std.proofs.Common.{◌≡◌, ℕ, ◌+◌, ◌*◌, ◌^◌, ◌<◌, ◌≤◌, List, sym, refl, ap, ◌∙◌, arith, rules}
-use Rattle.std.proofs.lemmas.Result.{err_from_is_err_and}
+use Rattle.std.proofs.lemmas.Grind.{common_steps}
+use Rattle.std.specs.Prelude.{None, Some, Ok}
+use Rattle.definitions.specs.declared.Refusal.{Refusal}
+use Rattle.std.proofs.lemmas.Result.{err_from_is_err_and, MatchResult-weaker}
 use Rattle.pass1.proofs.Guide.+visit_entry_walk_table.Goals.{walk_table-in-Skip, walk_table-in-Leaf+in_ok-more-in-Leaf, walk_table-in-Table+in_ok-walk-in-Table}
 use Rattle.pass1.proofs.Guide.+visit_entry_walk_table.Goals as goal
 
@@ -51,7 +54,8 @@ module _ {b : ℕ} {xs ws : List ℕ} {p : Plan} {t l a : ℕ} {w : Walk} (pre :
 pub visit_entry-walk_table-requires : goal.visit_entry-walk_table-requires
 visit_entry-walk_table-requires t c =
     let pre = c.requires in
-    let opens = rw c.in-Some.is at c.in_ok-open_table.ensures in
+    let is : c.open_table.result ≡ Ok (Some c.in-Some.table) = grind (arith, common_steps) in
+    let opens = rw is at c.open_table.ensures in
     let fits = opens.fits in
     let level = pre.hand.level in
     let used = pre.asked.used in (
@@ -66,16 +70,22 @@ visit_entry-walk_table-requires t c =
     )
 
 pub visit_entry-returns-in-None : goal.visit_entry-returns-in-None
-visit_entry-returns-in-None t c = visits_done _ _ _ _ _ _ _ _ (rw c.in-None.is at c.in_ok-open_table.ensures) c.requires.held
+visit_entry-returns-in-None t c =
+    let is : c.open_table.result ≡ Ok None = grind (arith, common_steps) in
+    visits_done _ _ _ _ _ _ _ _ (rw is at c.open_table.ensures) c.requires.held
 
-pub visit_entry-returns-in_err-open_table : goal.visit_entry-returns-in_err-open_table
-visit_entry-returns-in_err-open_table t c =
+pub visit_entry-returns-in_err-opened : goal.visit_entry-returns-in_err-opened
+visit_entry-returns-in_err-opened t c =
     let p = err_from_is_err_and c.from_residual.result c.from_residual.ensures.1 in
-    rw (p.1, p.2) (visits_refused _ _ _ _ _ _ _ _ _ c.in_err-open_table.ensures)
+    let Beside : Refusal → Type 0 = λ r. c.in_err-opened.field-0.0 ≡ unfinished r c.args.walk.store in
+    let cases =
+    MatchResult-weaker c.open_table.result {Q' = Beside} c.in_err-opened.ensures.cases (λ t h. h) (λ r h. search rules) in
+    rw (p.1, p.2) (visits_refused _ _ _ _ _ _ _ _ _ c.open_table.ensures c.requires.held cases)
 
 pub visit_entry-returns-in-Some : goal.visit_entry-returns-in-Some
 visit_entry-returns-in-Some t c =
-    let opens = rw c.in-Some.is at c.in_ok-open_table.ensures in
+    let is : c.open_table.result ≡ Ok (Some c.in-Some.table) = grind (arith, common_steps) in
+    let opens = rw is at c.open_table.ensures in
     visits_down _ _ _ _ _ _ _ _ _ opens _ _ _ c.walk_table.ensures
 
 -- ---- the goals of walk_table
@@ -118,8 +128,11 @@ walk_table-move_leaf-requires t c =
 pub walk_table-returns-in_err-more-in-Leaf : goal.walk_table-returns-in_err-more-in-Leaf
 walk_table-returns-in_err-more-in-Leaf t c =
     let read = at c.requires c.span_of-size.ensures.0 c.loop-i.out c.loop-i.i c.spot_at-spot.ensures in
-    let visits = refused_visits _ _ _ _ _ _ _ c.in-Leaf.ensures _ _ _ c.in_err-more-in-Leaf.ensures in
     let p = err_from_is_err_and c.from_residual.result c.from_residual.ensures.1 in
+    let Beside : Refusal → Type 0 = λ r. c.in_err-more-in-Leaf.field-0.0 ≡ unfinished r c.loop-i.walk.store in
+    let cases =
+    MatchResult-weaker c.move_leaf.result {Q' = Beside} c.in_err-more-in-Leaf.ensures.cases (λ t h. h) (λ r h. search rules) in
+    let visits = refused_visits _ _ _ _ _ _ _ c.in-Leaf.ensures _ _ _ c.move_leaf.ensures cases in
     rw (p.1, p.2) (stops c.loop-i.invariant c.loop-i-test.true read visits refl)
 
 -- a pointer, and the table that it points to
@@ -154,7 +167,8 @@ walk_table-loop-i-preserved t c =
           rw (w.scratch-is, w.walk-is) (again inv c.loop-i-test.true read visits refl _ (ap words_of (sym w.out-is)) long)
           )
       | walk_table-in-Leaf+in_ok-more-in-Leaf w ↦ (
-          let visits = stored_visits _ _ _ _ _ _ _ w.in-Leaf.ensures _ _ _ w.in_ok-more-in-Leaf.ensures in
+          let is : w.move_leaf.result ≡ Ok w.in_ok-more-in-Leaf.more = grind (arith, common_steps) in
+          let visits = stored_visits _ _ _ _ _ _ _ w.in-Leaf.ensures _ _ _ (rw is at w.move_leaf.ensures) in
           rw (w.scratch-is, w.walk-is) (again inv c.loop-i-test.true read visits refl _ (ap words_of (sym w.out-is)) long)
           )
       | walk_table-in-Table+in_ok-walk-in-Table w ↦ (

@@ -12,6 +12,8 @@ use Rattle.definitions.specs.Ranges.{shifted}
 use Rattle.definitions.specs.Geometry.{span}
 use Rattle.definitions.proofs.Geometry.{span_pos, span_mono, span_mask}
 use Rattle.definitions.proofs.Offset.{shifted_whole}
+use Rattle.std.proofs.lemmas.List.{append-nil}
+use Rattle.std.proofs.Math.Seq.{take-length, drop-length}
 use Rattle.std.proofs.Common.{◌≡◌, refl, ℕ, ◌+◌, ◌-◌, ◌%◌, ◌^◌, ◌<◌, ◌≤◌, List, sym, ap, ◌∙◌, arith, rules}
 use lib.Bits.{bit_and}
 use Rattle.definitions.specs.declared.refusals.Error.{Error}
@@ -62,7 +64,8 @@ overflow_sub-rest c = let h = some c.requires in omega (arith, h)
 
 pub returns-then-rest-ne0 : goal.returns-then-rest-ne0
 returns-then-rest-ne0 c =
-    moves_odd (λ h. c.if-rest-ne0.true (remainder c.requires c.args.offset ∙ h)) c.with_offset.ensures
+    -- asked of the scratch as it is then, so that an edit which writes there falls by what it wrote
+    moves_odd (search (rules, take-length, drop-length, append-nil)) (search rules) (λ h. c.if-rest-ne0.true (remainder c.requires c.args.offset ∙ h)) c.with_offset.ensures
 
 pub overflow_sub-self : goal.overflow_sub-self
 overflow_sub-self c = below c.requires
@@ -70,7 +73,7 @@ overflow_sub-self c = below c.requires
 pub returns-then-self-size : goal.returns-then-self-size
 returns-then-self-size c =
     let whole = sym (remainder c.requires c.args.offset) ∙ c.if-rest-ne0.false in
-    moves_past whole (far c.requires c.args.offset refl c.if-self-size.true)
+    moves_past c.requires.held refl whole (far c.requires c.args.offset refl c.if-self-size.true)
     c.with_offset-then-self-size.ensures
 
 pub returns-in_err-more : goal.returns-in_err-more
@@ -82,7 +85,7 @@ returns-in_err-more c =
     let Placed : Error → Type 0 = λ e. c.in_err-more.field-0.0 ≡ refusal_at e x.va x.level in
     let cases =
     MatchResult-weaker c.remember-kept.result {Q' = Placed} c.in_err-more.ensures.cases (λ t h. h) (λ e h. search rules) in
-    rw (p.1, p.2) (moves_refused gone c.remember-kept.ensures cases)
+    rw (p.1, p.2) (moves_refused gone c.requires.held c.remember-kept.ensures cases)
 
 pub returns : goal.returns
 returns c =
