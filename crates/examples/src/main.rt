@@ -31,18 +31,28 @@ const ROOT_5: u64 = 0x10_3000;
 // The word of the base's one leaf.
 const MAPPED: usize = TABLE_2 + 1;
 
-// A guest: the bytes of its tables, and its registers.
+// So many entries a guest has at most.
+const ENTRIES: usize = 8;
+
+// A guest: how many bytes of tables it has, their entries, each with its word's number (the last one of a word stands), and its
+// registers. The tables are made for each build: as a part of the guest they would be on the stack once for each.
 #[derive(Clone, Copy)]
-struct Guest<const N: usize> {
-    image: [u8; N],
+struct Guest {
+    used: usize,
+    entries: [(usize, u64); ENTRIES],
+    count: usize,
     cpu: CpuPagingState,
 }
 
-impl<const N: usize> Guest<N> {
-    // The tables of the base.
-    fn base(cpu: CpuPagingState) -> Guest<N> {
-        let image = [0u8; N];
-        let empty = Guest { image, cpu };
+impl Guest {
+    // The tables of the base, in so many bytes.
+    fn base(used: usize, cpu: CpuPagingState) -> Guest {
+        let empty = Guest {
+            used,
+            entries: [(0, 0); ENTRIES],
+            count: 0,
+            cpu,
+        };
         empty
             .with(0, 0x10_1023)
             .with(TABLE_1, 0x10_2023)
@@ -50,34 +60,39 @@ impl<const N: usize> Guest<N> {
     }
 
     // With another entry.
-    fn with(mut self, slot: usize, word: u64) -> Guest<N> {
-        tables::put(&mut self.image, slot, word);
+    fn with(mut self, slot: usize, word: u64) -> Guest {
+        if self.count < ENTRIES {
+            self.entries[self.count] = (slot, word);
+            self.count += 1;
+        }
         self
+    }
+
+    // Puts its tables into room that is zero.
+    fn put(&self, room: &mut [u8]) {
+        for &(slot, word) in self.entries.iter().take(self.count) {
+            tables::put(room, slot, word);
+        }
     }
 
     // Prints what the build with one range makes of it. The buffers are lent full of other bytes.
     fn build(&self, rt: &impl Print, label: &str, range: [u64; 3], size: u64) -> io::Result<()> {
+        let mut room = [0u8; MOST];
+        self.put(&mut room);
+        let image = room.get(..self.used).unwrap_or(&room);
         let mut out = [0xa5u8; MOST];
         let mut scratch = [7u64; 4];
         let region = Region {
             gpa: GPA,
             size,
-            used: N as u64,
+            used: self.used as u64,
         };
-        let built = build::build(
-            &self.image,
-            &mut out,
-            &mut scratch,
-            &range,
-            region,
-            self.cpu,
-            0,
-        );
+        let built = build::build(image, &mut out, &mut scratch, &range, region, self.cpu, 0);
         print!(rt; "{label}")?;
         match built {
             Ok(counts) => {
                 accepted(rt, counts)?;
-                changes(rt, &self.image, &out)?;
+                changes(rt, image, &out)?;
             }
             Err(refusal) => {
                 refused(rt, refusal)?;
@@ -128,13 +143,13 @@ fn changes(rt: &impl Print, image: &[u8], out: &[u8]) -> io::Result<()> {
 }
 
 // The base.
-fn four() -> Guest<USED> {
-    Guest::base(CpuPagingState { cr3: GPA, cr4: 0 })
+fn four() -> Guest {
+    Guest::base(USED, CpuPagingState { cr3: GPA, cr4: 0 })
 }
 
 // The base under a level-4 root.
-fn five<const N: usize>(cr3: u64) -> Guest<N> {
-    let base = Guest::base(CpuPagingState { cr3, cr4: 0x1000 });
+fn five(used: usize, cr3: u64) -> Guest {
+    let base = Guest::base(used, CpuPagingState { cr3, cr4: 0x1000 });
     base.with(TABLE_3, 0x10_0023)
 }
 
@@ -168,7 +183,7 @@ fn indices(rt: &impl Print) -> io::Result<()> {
 }
 
 fn five_levels(rt: &impl Print) -> io::Result<()> {
-    let base: Guest<USED_5> = five(ROOT_5);
+    let base = five(USED_5, ROOT_5);
     base.moved(rt, "five levels, offset 200000:", 0x20_0000)?;
     base.moved(rt, "five levels, offset 1000000000000:", 0x1_0000_0000_0000)?;
     let far = [0x20_0000, 0x3f_ffff, 0x1_0000_0000_0000];
@@ -178,7 +193,7 @@ fn five_levels(rt: &impl Print) -> io::Result<()> {
         far,
         0x4000,
     )?;
-    let in_tail: Guest<USED_5> = five(0x10_4000);
+    let in_tail = five(USED_5, 0x10_4000);
     in_tail.moved(rt, "five levels, offset 200000, cr3 104000:", 0x20_0000)?;
     base.moved(rt, "five levels, offset fffffffc00000:", 0xf_ffff_ffc0_0000)?;
     base.moved(rt, "five levels, offset fffffffe00000:", 0xf_ffff_ffe0_0000)?;
@@ -200,7 +215,7 @@ fn five_levels(rt: &impl Print) -> io::Result<()> {
 }
 
 fn far_leaf(rt: &impl Print) -> io::Result<()> {
-    let base: Guest<0x6000> = five(ROOT_5);
+    let base = five(0x6000, ROOT_5);
     let far = base
         .with(TABLE_3 + 16, 0x10_4023)
         .with(TABLE_3 + 512, 0x10_5023)

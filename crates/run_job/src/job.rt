@@ -1,6 +1,6 @@
 // A job as its text says it, read line by line up to its build.
 use crate::line::{Fault, ends, numbers, numbers_and_offset, split_word};
-use crate::load;
+use crate::load::{self, PAGE_BYTES};
 use arrayvec::ArrayVec;
 use build::CpuPagingState;
 use definitions::Region;
@@ -129,6 +129,7 @@ fn read_rest(
     rest: &[u8],
     job: Option<Job>,
     ranges: &mut Ranges,
+    page: &mut [u8; PAGE_BYTES],
 ) -> Result<Step, Fault> {
     let Some(job) = job else {
         return match kind {
@@ -143,7 +144,7 @@ fn read_rest(
             Job { image, ..job }
         }
         Kind::Load => {
-            let _ = load::read(rest)?;
+            let _ = load::read(rest, page)?;
             job
         }
         Kind::Range => {
@@ -162,13 +163,14 @@ fn read_rest(
 // Reads a text up to its build: that, and how many lines stand before it. The ranges get its ranges.
 pub(crate) fn read(text: &[u8], ranges: &mut Ranges) -> Result<(Build, usize), Wrong> {
     let mut job = None;
+    let mut page = [0u8; PAGE_BYTES];
     for (row, line) in text.split(|byte| *byte == b'\n').enumerate() {
         let (word, rest) = split_word(line);
         if word.is_empty() || word.starts_with(b"#") {
             continue;
         }
         let step = match kind_of(word) {
-            Some(kind) => read_rest(kind, rest, job, ranges),
+            Some(kind) => read_rest(kind, rest, job, ranges, &mut page),
             None => Err(Fault::Line),
         };
         match step {

@@ -2,15 +2,14 @@
 use crate::line::{Fault, is_blank, number};
 
 // Data longer than a page is refused whatever it is: a byte more than a page stands for all of it, in whole words.
-const PAGE_BYTES: usize = 4104;
+pub(crate) const PAGE_BYTES: usize = 4104;
 
 const LONGEST: u64 = 4097;
 
-// The page's address, its data, and how long that is: words are put anywhere into the page, so it is no ArrayVec.
-#[derive(Drop)]
+// The page's address, and how long its data is.
+#[derive(Clone, Copy)]
 pub struct Load {
     pub gpa: u64,
-    pub page: [u8; PAGE_BYTES],
     pub length: usize,
 }
 
@@ -37,15 +36,15 @@ fn fill(line: &[u8], size: u64, page: &mut [u8]) -> Result<(), Fault> {
     Ok(())
 }
 
-// Reads the line after its first word.
-pub(crate) fn read(line: &[u8]) -> Result<Load, Fault> {
+// Reads the line after its first word; the page gets the data. It is lent: a page of its own, or one handed back, would cost 4 KiB of
+// writes for every line that is looked at, load or not.
+pub(crate) fn read(line: &[u8], page: &mut [u8; PAGE_BYTES]) -> Result<Load, Fault> {
     let (gpa, rest) = number(line)?;
     let (length, rest) = number(rest)?;
-    let mut page = [0u8; PAGE_BYTES];
-    fill(rest, length, &mut page)?;
+    page.fill(0);
+    fill(rest, length, page)?;
     Ok(Load {
         gpa,
-        page,
         length: length.min(LONGEST) as usize,
     })
 }

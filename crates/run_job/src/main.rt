@@ -9,6 +9,7 @@ use definitions::Region;
 use definitions::paging::Geometry;
 use files::Buffers;
 use job::Build;
+use load::{Load, PAGE_BYTES};
 use reports::RefusedLoad;
 use std::alloc::AllocError;
 use std::rt::{Env, Files};
@@ -19,16 +20,22 @@ const TEXT_MAX: usize = 262144;
 const TEXT_BYTES: usize = TEXT_MAX + 1;
 
 // Does the load that a line asks for, if it asks for one; a refusal is printed. Where that can't be written the job goes on.
-fn load_line(out: &impl Print, line: &[u8], image: &mut [u8], geometry: Geometry, region: Region) {
+fn load_line(
+    out: &impl Print,
+    line: &[u8],
+    page: &mut [u8; PAGE_BYTES],
+    image: &mut [u8],
+    geometry: Geometry,
+    region: Region,
+) {
     let (word, rest) = line::split_word(line);
     if word != b"load".as_slice() {
         return;
     }
-    let Ok(load) = load::read(rest) else {
+    let Ok(Load { gpa, length }) = load::read(rest, page) else {
         return;
     };
-    let gpa = load.gpa;
-    let page = files::front(&load.page, load.length);
+    let page = files::front(page, length);
     if let Err(error) = region::set_page_data(image, geometry, region, gpa, page) {
         let _ = out.print(RefusedLoad { gpa, error });
     }
@@ -47,8 +54,9 @@ fn execute(
     let geometry = levels::geometry_of(build.cpu.cr4);
     let length = (job.image as usize).min(lent.image.len());
     let image = &mut lent.image[..length];
+    let mut page = [0u8; PAGE_BYTES];
     for line in text.split(|byte| *byte == b'\n').take(lines) {
-        load_line(rt, line, image, geometry, job.region);
+        load_line(rt, line, &mut page, image, geometry, job.region);
     }
     if !files::save(rt, 2, "run: IMAGE", image) {
         return;

@@ -69,12 +69,13 @@ impl TryFrom<u64> for Line {
     }
 }
 
-// What is lent to the operations, what earlier lines have set, and the answers so far.
+// What is lent to the operations, what earlier lines have set, and the answers so far. The buffers are main's: as parts of this they
+// would take their room on the stack again with each move.
 #[derive(Drop)]
-struct Replay {
-    image: [u8; IMAGE],
-    output: [u8; OUTPUT],
-    scratch: [u64; SCRATCH],
+struct Replay<'a> {
+    image: &'a mut [u8; IMAGE],
+    output: &'a mut [u8; OUTPUT],
+    scratch: &'a mut [u64; SCRATCH],
     ranges: ArrayVec<u64, RANGE_WORDS>,
     region: Region,
     cpu: CpuPagingState,
@@ -85,11 +86,12 @@ struct Replay {
     different: u64,
 }
 
-impl Replay {
-    fn new() -> Replay {
-        let image = [0u8; IMAGE];
-        let output = [0xa5u8; OUTPUT];
-        let scratch = [7u64; SCRATCH];
+impl<'a> Replay<'a> {
+    fn new(
+        image: &'a mut [u8; IMAGE],
+        output: &'a mut [u8; OUTPUT],
+        scratch: &'a mut [u64; SCRATCH],
+    ) -> Replay<'a> {
         Replay {
             image,
             output,
@@ -116,7 +118,7 @@ impl Replay {
 
     // A region, with an image all zeros and no ranges.
     fn region_line(&mut self, region: Region) {
-        words::fill_from(&mut self.image, 0, 0);
+        words::fill_from(self.image, 0, 0);
         self.region = region;
         self.ranges.clear();
     }
@@ -145,13 +147,15 @@ impl Replay {
 
     // The build, which is to answer a number, with so many bytes of tables and leaves merged.
     fn build_line(&mut self, number: u64, used: u64, merged: u64) {
+        let output = &mut *self.output;
+        let scratch = &mut *self.scratch;
         let Some(image) = self.image.get(..self.region.used as usize) else {
             return self.count(false);
         };
         let built = build::build(
             image,
-            &mut self.output,
-            &mut self.scratch,
+            output,
+            scratch,
             self.ranges.as_slice(),
             self.region,
             self.cpu,
@@ -177,9 +181,9 @@ impl Replay {
 
     // An entry of the output. Each word found is taken out, so that nothing may be left at the end.
     fn output_line(&mut self, k: usize, word: u64) {
-        let same = tables::word_at(&self.output, k) == word;
+        let same = tables::word_at(self.output, k) == word;
         self.count(same);
-        tables::put(&mut self.output, k, 0);
+        tables::put(self.output, k, 0);
     }
 
     // Whether an operation of one answer gives what its line says.
@@ -210,7 +214,7 @@ impl Replay {
                 size: b,
                 used: c,
             }),
-            Ok(Line::Image) => tables::put(&mut self.image, a as usize, b),
+            Ok(Line::Image) => tables::put(self.image, a as usize, b),
             Ok(Line::Range) => self.range_line([a, b, c]),
             Ok(Line::Cpu) => {
                 self.cpu = CpuPagingState { cr3: a, cr4: b };
@@ -219,7 +223,7 @@ impl Replay {
             Ok(Line::Build) => self.build_line(a, b, c),
             Ok(Line::Output) => self.output_line(a as usize, b),
             Ok(Line::Blank) => {
-                let same = tables::blank(&self.output);
+                let same = tables::blank(self.output);
                 self.count(same);
             }
             Ok(Line::Load) => self.load_line(a, b as usize, c),
@@ -286,8 +290,7 @@ fn digit(c: u8) -> u64 {
 }
 
 // Reads the file to its end. No file is longer than these turns.
-fn read_all(file: &mut impl Read) -> io::Result<Replay> {
-    let mut replay = Replay::new();
+fn read_all(file: &mut impl Read, replay: &mut Replay) -> io::Result<()> {
     let mut line = Words::new();
     let mut text = [0u8; 4096];
     for _ in 0..u64::MAX {
@@ -306,7 +309,7 @@ fn read_all(file: &mut impl Read) -> io::Result<Replay> {
             break;
         }
     }
-    Ok(replay)
+    Ok(())
 }
 
 fn main(rt: HostRuntime) -> io::Result<()> {
@@ -317,6 +320,10 @@ fn main(rt: HostRuntime) -> io::Result<()> {
             return Ok(());
         }
     };
-    let done = read_all(&mut file)?;
-    println!(rt; "answers {} different {}", done.answers, done.different)
+    let mut image = [0u8; IMAGE];
+    let mut output = [0xa5u8; OUTPUT];
+    let mut scratch = [7u64; SCRATCH];
+    let mut replay = Replay::new(&mut image, &mut output, &mut scratch);
+    read_all(&mut file, &mut replay)?;
+    println!(rt; "answers {} different {}", replay.answers, replay.different)
 }
