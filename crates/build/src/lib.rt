@@ -139,9 +139,9 @@ pub fn build(
 {
     let built = relocate(image, out, scratch, ranges, r, cpu, table_offset);
     words::fill_from(scratch, 0, 0);
-    if built.is_ok() {
+    let Err(refusal) = built else {
         return built;
-    }
+    };
     words::fill_from(out, 0, 0);
-    built
+    Err(refusal)
 }
