@@ -65,7 +65,8 @@ overflow_sub-rest c = let h = some c.requires in omega (arith, h)
 pub returns-then-rest-ne0 : goal.returns-then-rest-ne0
 returns-then-rest-ne0 c =
     -- asked of the scratch as it is then, so that an edit which writes there falls by what it wrote
-    moves_odd (search (rules, take-length, drop-length, append-nil)) (search rules) (λ h. c.if-rest-ne0.true (remainder c.requires c.args.offset ∙ h)) c.with_offset.ensures
+    moves_odd (search (rules, take-length, drop-length, append-nil)) (search rules)
+    (λ h. c.if-rest-ne0.true (remainder c.requires c.args.offset ∙ h)) c.with_offset.ensures
 
 pub overflow_sub-self : goal.overflow_sub-self
 overflow_sub-self c = below c.requires
