@@ -1,6 +1,6 @@
 -- The task at an entry, and the cases of a leaf that moves, each from the facts that the code's tests give.
 -- Assumes nothing.
-use Rattle.std.proofs.Common.{◌≡◌, ℕ, ◌+◌, ◌/◌, ◌%◌, ◌<◌, ◌≤◌, true, false, leb, List, length, sym, refl, ap, ◌∙◌, subst}
+use Rattle.std.proofs.Common.{◌≡◌, ℕ, ◌+◌, ◌/◌, ◌%◌, ◌<◌, ◌≤◌, true, false, leb, List, length, sym, ap, ◌∙◌, subst}
 use Rattle.std.proofs.Common.{arith, le-ltb, lt-ltb, eq-eqb, ne_eqb}
 use Rattle.definitions.specs.Words.{Mem, Tables, put}
 use Rattle.definitions.specs.Geometry.{span}
@@ -9,7 +9,7 @@ use Rattle.definitions.specs.Inputs.{place_at, refusal_at, refusal_with}
 use Rattle.definitions.specs.declared.refusals.Error.{Error}
 use Rattle.std.specs.Prelude.{Option, None, Some, Result, Ok, Err, MatchResult}
 use Rattle.definitions.specs.Ranges.{shifted, kind, kind_of, decide, deciding, ranges_of, shift}
-use Rattle.definitions.specs.Step.{Step, go, unless, and_then}
+use Rattle.definitions.specs.Step.{Step, go, stopped, unless, and_then}
 use Rattle.definitions.specs.Pass1 as D
 use Rattle.definitions.specs.Pass1.{State, taken, remember, move_act, leaf_act, kind_act, act, perform}
 use Rattle.definitions.specs.declared.Moved.{Moved}
@@ -85,34 +85,44 @@ place x = place_at x.va x.level
 abbrev cleared : Spot → Mem → Tables → List Moved → Step State
 cleared x m reached ms = go (record { mem = put m x.word 0; reached = reached; moved = ms })
 
--- refused, and the scratch holds what it held
+-- the leaf's act, performed, ends so, whatever is reached
+abbrev Acts : Geometry → Spot → ℕ → Mem → List ℕ → Store → (Tables → Step State) → Type 0
+Acts g x o m xs s ends =
+    (p : D.Plan) → p.geometry ≡ g → (reached : Tables) (down : ℕ → State → Step State)
+    → ends reached ≡ perform (length xs / 3) down x.level x.va x.word (state_of m xs reached s) (move_act p x.level x.va x.entry o)
+
+-- the leaf is refused; that the scratch holds the store is not asked
+pub record Stops (g : Geometry) (x : Spot) (o : ℕ) (m : Mem) (xs : List ℕ) (s : Store) (r : Refusal) : Type 0 where
+  pub step : Acts g x o m xs s (λ reached. stopped r)
+
+module _ {g : Geometry} {x : Spot} {o : ℕ} {m : Mem} {xs : List ℕ} {s : Store} where
+  pub odd_stops : (o % span x.level ≡ 0 → ⊥) → {r : Refusal} → r ≡ refusal_with Error.UnalignedOffset x.va x.level o
+      → Stops g x o m xs s r
+  unfolding move_act perform
+  odd_stops h e = rw e (record { step = λ p q reached down. rw (ne_eqb (o % span x.level) 0 h) })
+
+  pub past_stops : o % span x.level ≡ 0 → g.limit < shifted x.va o + span x.level
+      → {r : Refusal} → r ≡ refusal_with Error.OutOfBounds x.va x.level o → Stops g x o m xs s r
+  unfolding move_act perform
+  past_stops h f e = rw e (record { step = λ p q reached down. rw (q, eq-eqb (o % span x.level) 0 h, lt-ltb _ _ f) })
+
+-- so, where the scratch holds what it held
 module _ {g : Geometry} {x : Spot} {o : ℕ} {m : Mem} {xs ys : List ℕ} {s : Store} (held : Held ys s) (long : length ys ≡ length xs) where
+  still_held : {r : Refusal} → Stops g x o m xs s r → Departs g x o m xs s m ys (Err r)
+  still_held stops = record { step = stops.step; held = held; long = long }
+
   pub moves_odd : (o % span x.level ≡ 0 → ⊥) → {r : Refusal} → r ≡ refusal_with Error.UnalignedOffset x.va x.level o
       → Departs g x o m xs s m ys (Err r)
-  unfolding move_act perform
-  moves_odd h e =
-      rw e (record {
-        step = λ p q reached down. rw (ne_eqb (o % span x.level) 0 h);
-        held = held;
-        long = long;
-      })
+  moves_odd h e = still_held (odd_stops h e)
 
   pub moves_past : o % span x.level ≡ 0 → g.limit < shifted x.va o + span x.level
       → {r : Refusal} → r ≡ refusal_with Error.OutOfBounds x.va x.level o → Departs g x o m xs s m ys (Err r)
-  unfolding move_act perform
-  moves_past h f e =
-      rw e (record {
-        step = λ p q reached down. rw (q, eq-eqb (o % span x.level) 0 h, lt-ltb _ _ f);
-        held = held;
-        long = long;
-      })
+  moves_past h f e = still_held (past_stops h f e)
 
 module _ {g : Geometry} {x : Spot} {o b v : ℕ} (away : Away g x o b v)
     {xs : List ℕ} {s : Store} {ys : List ℕ} {k : Result Store Error} (keeps : Keeps xs s (leaf b x.level v) ys k) where
   -- what the store answered, and then the entry cleared, is the act
-  acted : (m : Mem) (p : D.Plan) → p.geometry ≡ g
-      → (reached : Tables) (down : ℕ → State → Step State) → and_then (kept_step (place x) k ys) (cleared x m reached)
-      ≡ perform (length xs / 3) down x.level x.va x.word (state_of m xs reached s) (move_act p x.level x.va x.entry o)
+  acted : (m : Mem) → Acts g x o m xs s (λ reached. and_then (kept_step (place x) k ys) (cleared x m reached))
   unfolding move_act perform
   acted m p q reached down =
       ap (λ (z : Step (List Moved)). and_then z (cleared x m reached)) (keeps.step (place x))
@@ -130,16 +140,19 @@ moves_in {x = x} away {ys = ys} {t = t} keeps {m} c =
       long = keeps.long;
     }
 
--- it is refused, and the scratch stays as it is
+-- the store refuses it, for anything
+pub refused_stops : {g : Geometry} {x : Spot} {o b v : ℕ} → Away g x o b v → {xs : List ℕ} {s : Store} {ys : List ℕ} {k : Result Store Error}
+    → Keeps xs s (leaf b x.level v) ys k → {m : Mem} {r : Refusal}
+    → MatchResult k (λ t. ◌≡◌ {A = Result Store Refusal} (Err r) (Ok t)) (λ e. r ≡ refusal_at e x.va x.level) → Stops g x o m xs s r
+unfolding and_then
+refused_stops away {k = Ok t} keeps e = absurd (cc)
+refused_stops away {k = Err d} keeps {m} e = rw e (record { step = acted away keeps m })
+
+-- so, and the scratch holds what it held
 pub moves_not : {g : Geometry} {x : Spot} {o b v : ℕ} → Away g x o b v → {xs : List ℕ} {s : Store} → Held xs s → {ys : List ℕ} {e : Error}
     → Keeps xs s (leaf b x.level v) ys (Err e) → {m : Mem} {r : Refusal} → r ≡ refusal_at e x.va x.level → Departs g x o m xs s m ys (Err r)
-unfolding and_then
-moves_not away {s = s} held keeps {m} c =
-    rw c (record {
-      step = acted away keeps m;
-      held = subst (λ (z : List ℕ). Held z s) (sym keeps.kept) held;
-      long = keeps.long;
-    })
+moves_not away {s = s} held keeps e =
+    still_held (subst (λ (z : List ℕ). Held z s) (sym keeps.kept) held) keeps.long (refused_stops away keeps e)
 
 -- so, whatever it is refused for
 pub moves_refused : {g : Geometry} {x : Spot} {o b v : ℕ} → Away g x o b v → {xs : List ℕ} {s : Store} → Held xs s

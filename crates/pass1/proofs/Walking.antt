@@ -5,7 +5,7 @@ use native.Mathlib.Nat.{zero-mod}
 use lib.Arith.{digits_mod}
 use Rattle.definitions.specs.Words.{Mem, Tables, slot, mark, no_tables, words_of}
 use Rattle.definitions.specs.Geometry.{root_height, span}
-use Rattle.definitions.specs.Step.{Step, and_then, times}
+use Rattle.definitions.specs.Step.{Step, stopped, and_then, times}
 use Rattle.definitions.specs.Pass1.{State, Act, perform, visit, walk_table}
 use Rattle.definitions.proofs.Geometry.{SoundGeometry, span_pos, span_suc}
 use Rattle.definitions.specs.declared.Moved.{Moved}
@@ -22,7 +22,8 @@ use Rattle.pass1.specs.declared.Walk.{Walk}
 use Rattle.pass1.specs.declared.Unfinished.{Unfinished}
 use Rattle.pass1.specs.declared.Spot.{Spot}
 use Rattle.pass1.specs.declared.Task.TheVariants.{Skip, Leaf}
-use Rattle.pass1.specs.Walks.{spot_in, act_at, view, outcome, LeavesHeld, plan_of, Told, Departs, walk_of, Opens, Lies, AtHand, Visits, Walked, FirstWalked}
+use Rattle.pass1.specs.Walks.{spot_in, act_at, view, outcome, LeavesHeld, plan_of, Told, Departs, walk_of, performed, Opens, Lies, AtHand, Visits, Walked, FirstWalked}
+use Rattle.pass1.proofs.Moving.{Stops}
 
 -- ---- where entries lie
 
@@ -83,25 +84,26 @@ module _ (ws : List ℕ) (p : Plan) (x : Spot) (m : Mem) (xs : List ℕ) (w : Wa
   skip_visits told held = record { step = sym (ap does (told (length xs))); held = held; long = refl }
 
   -- a leaf that moves by o
-  module _ (o : ℕ) (told : Told ws p x (Leaf o)) (m' : Mem) (ys : List ℕ) where
-    pub stored_visits : (t : Store) → Departs p.geometry x o m xs w.store m' ys (Ok t) → Visits ws p x m xs w m' ys (Ok (walk_of w.reached t))
-    stored_visits t d = record {
-      step = d.step (plan_of p ws (length xs)) refl (set_of w.reached) down_of ∙ sym (ap does (told.1 (length xs)));
-      held = d.held;
-      long = d.long;
-    }
+  module _ (o : ℕ) (told : Told ws p x (Leaf o)) where
+    -- it is refused; that the scratch holds the store is not asked
+    pub leaf_stops : {r : Refusal} → Stops p.geometry x o m xs w.store r → stopped r ≡ performed ws p down_of x m xs w
+    leaf_stops d = d.step (plan_of p ws (length xs)) refl (set_of w.reached) down_of ∙ sym (ap does (told.1 (length xs)))
 
-    -- u is what is made of a refusal
-    pub refused_visits : (k : Result Store Refusal) → Departs p.geometry x o m xs w.store m' ys k → {u : Unfinished}
-        → MatchResult k (λ t. ◌≡◌ {A = Result Store Unfinished} (Err u) (Ok t)) (λ r. u ≡ unfinished r w.store)
-        → Visits ws p x m xs w m' ys (Err u)
-    refused_visits (Ok t) d e = absurd (cc)
-    refused_visits (Err r) d e =
-        rw e (record {
-          step = d.step (plan_of p ws (length xs)) refl (set_of w.reached) down_of ∙ sym (ap does (told.1 (length xs)));
-          held = d.held;
-          long = d.long;
-        })
+    module _ (m' : Mem) (ys : List ℕ) where
+      pub stored_visits : (t : Store) → Departs p.geometry x o m xs w.store m' ys (Ok t)
+          → Visits ws p x m xs w m' ys (Ok (walk_of w.reached t))
+      stored_visits t d = record {
+        step = d.step (plan_of p ws (length xs)) refl (set_of w.reached) down_of ∙ sym (ap does (told.1 (length xs)));
+        held = d.held;
+        long = d.long;
+      }
+
+      -- u is what is made of a refusal
+      pub refused_visits : (k : Result Store Refusal) → Departs p.geometry x o m xs w.store m' ys k → {u : Unfinished}
+          → MatchResult k (λ t. ◌≡◌ {A = Result Store Unfinished} (Err u) (Ok t)) (λ r. u ≡ unfinished r w.store)
+          → Visits ws p x m xs w m' ys (Err u)
+      refused_visits (Ok t) d e = absurd (cc)
+      refused_visits (Err r) d e = rw e (record { step = leaf_stops (record { step = d.step }); held = d.held; long = d.long })
 
   -- a pointer that is opened
   module _ (m' : Mem) (v' : Reached) where
